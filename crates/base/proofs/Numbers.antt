@@ -1,0 +1,38 @@
+-- Laws of `member` over the first elements of a list, as a loop passes them.
+use Prim.Native.Nat.{ℕ, zero, suc, _+_, _≤_, _<_, min}
+use mathlib.Core.Path.{_≡_, refl, ap, sym, _∙_}
+use mathlib.Core.Bool.{Bool, true, false, _||_, or-false, or-true, or-assoc}
+use mathlib.Core.List.{List, [], _∷_, _++_}
+use mathlib.Core.Logic.{⊎-elim}
+use native.Mathlib.Nat.{min-eq-left, min-eq-right}
+use native.Mathlib.Numerals.{add-one}
+use native.Mathlib.Omega.{arith}
+use lib.ListN.{length, getD, take}
+use lib.Seq.{take-suc, take-all}
+use lib.Dec.{eqb}
+use borrow.Author.Tests.{eq-eqb, ne-eqb}
+use Rattle.base.specs.Numbers.{member}
+use Rattle.base.proofs.Choice.{below}
+
+pub member-snoc : (x : ℕ) (l : List ℕ) (y : ℕ) → member x (l ++ (y ∷ [])) ≡ (member x l || eqb y x)
+member-snoc x [] y = or-false (eqb y x)
+member-snoc x (z ∷ l) y = ap (λ (t : Bool). eqb z x || t) (member-snoc x l y) ∙ sym (or-assoc (eqb z x) (member x l) (eqb y x))
+
+-- one more element is passed
+module _ (x : ℕ) (l : List ℕ) (i : ℕ) (h : i < length l) where
+  member-more : member x (take (i + 1) l) ≡ (member x (take i l) || eqb (getD l i 0) x)
+  member-more = ap (λ (k : ℕ). member x (take k l)) (add-one i) ∙ ap (member x) (take-suc l i 0 h) ∙ member-snoc x (take i l) (getD l i 0)
+
+  pub member-hit : getD l i 0 ≡ x → true ≡ member x (take (i + 1) l)
+  member-hit e = sym (member-more ∙ ap (λ (t : Bool). member x (take i l) || t) (eq-eqb (getD l i 0) x e) ∙ or-true (member x (take i l)))
+
+  pub member-miss : {t : Bool} → (getD l i 0 ≡ x → ⊥) → t ≡ member x (take i l) → t ≡ member x (take (i + 1) l)
+  member-miss n e = e ∙ sym (member-more ∙ ap (λ (t : Bool). member x (take i l) || t) (ne-eqb (getD l i 0) x n) ∙ or-false (member x (take i l)))
+
+-- taking more than there are takes all
+pub take-lesser : (n : ℕ) (l : List ℕ) → take (min n (length l)) l ≡ take n l
+take-lesser n l =
+    ⊎-elim
+    (λ (h : n < length l). ap (λ (k : ℕ). take k l) (let le : n ≤ length l = omega arith in min-eq-left le))
+    (λ (h : length l ≤ n). ap (λ (k : ℕ). take k l) (min-eq-right h) ∙ take-all (length l) l (omega arith) ∙ sym (take-all n l h))
+    (below n (length l))

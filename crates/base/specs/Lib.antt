@@ -1,0 +1,5 @@
+pub mod Rounding
+pub mod Fraction
+pub mod Answer
+pub mod Numbers
+pub mod Buffer

@@ -1,0 +1,20 @@
+-- Small facts on numbers that contracts and definitions cite.
+use Prim.Native.Nat.{ℕ, _<_}
+use mathlib.Core.Path.{_≡_}
+use mathlib.Core.Bool.{Bool, false, _||_}
+use mathlib.Core.List.{List, [], _∷_}
+use lib.Dec.{ltb, eqb}
+
+-- n is not among the numbers from low to high
+abbrev pub outside : ℕ → ℕ → ℕ → Bool
+outside low high n = ltb n low || ltb high n
+
+-- x is an element
+abbrev pub member : ℕ → List ℕ → Bool
+member x [] = false
+member x (y ∷ ys) = eqb y x || member x ys
+
+-- r is x, and below 2³²
+pub record Wide (x r : ℕ) : Type 0 where
+  pub same : r ≡ x
+  pub low : x < 4_294_967_296
