@@ -59,3 +59,12 @@ turn s at i x r e f = f ∙ ap (λ (y : Seen). columnOf y (getD s (at + i) 0)) e
 pub ended : (s : List ℕ) (at i : ℕ) (x : Seen) → i ≤ 9 → 9 ≤ i → x ≡ seenTo s at i → finish x ≡ fieldAt s at
 unfolding fieldAt
 ended s at i x l m e = let n : i ≡ 9 = omega arith in ap finish (e ∙ ap (λ (k : ℕ). seenTo s at k) n)
+
+-- a field is read off its nine columns alone
+pub field-same : (s t : List ℕ) (at : ℕ) → ((i : ℕ) → i < 9 → getD s (at + i) 0 ≡ getD t (at + i) 0) → fieldAt s at ≡ fieldAt t at
+unfolding fieldAt seenTo
+field-same s t at h = ap finish (go 9 (omega arith))
+  where
+    go : (k : ℕ) → k ≤ 9 → seenTo s at k ≡ seenTo t at k
+    go zero l = refl
+    go (suc k) l = ap (λ (x : Seen). columnOf x (getD s (at + k) 0)) (go k (omega arith)) ∙ ap (λ (b : ℕ). columnOf (seenTo t at k) b) (h k l)

@@ -1,0 +1,37 @@
+-- Worked examples, computed: the first car of document 01's sheet, a leading zero, and a line with a carriage return.
+use Prim.Native.Nat.{ℕ}
+use mathlib.Core.Path.{_≡_, refl}
+use mathlib.Core.List.{List, [], _∷_, _++_}
+use lib.ListN.{replicate}
+use Rattle.field.specs.Field.{seenTo, fieldAt, justified, fieldOf}
+use Rattle.line.specs.declared.letter.Letter.the-variants.{Row, Car}
+use Rattle.line.specs.Reading.{letterOf, feed, feedAt, good, values, refuse, lineBy, lineAt, readLine}
+use Rattle.line.specs.RoundTrip.{readAs}
+use Rattle.line.specs.Writing.{fieldsOf, lineOf}
+
+firstCar : List ℕ
+firstCar = 50_000_001 ∷ 1 ∷ 3 ∷ 1 ∷ 2 ∷ 1_500 ∷ 1_500 ∷ 0 ∷ 0 ∷ 0 ∷ 600 ∷ 9_500 ∷ 50 ∷ 20 ∷ []
+
+car-read : readLine (lineOf (record { letter = Car; numbers = firstCar })) ≡ readAs (record { letter = Car; numbers = firstCar })
+unfolding firstCar fieldsOf justified fieldOf lineOf seenTo fieldAt letterOf feed feedAt good values lineBy lineAt
+car-read = refl
+
+-- "R     1000    20000" as bytes
+row : lineOf (record { letter = Row; numbers = 1_000 ∷ 20_000 ∷ replicate 12 0 })
+    ≡ 82 ∷ 32 ∷ 32 ∷ 32 ∷ 32 ∷ 32 ∷ 49 ∷ 48 ∷ 48 ∷ 48 ∷ 32 ∷ 32 ∷ 32 ∷ 32 ∷ 50 ∷ 48 ∷ 48 ∷ 48 ∷ 48 ∷ 10 ∷ []
+unfolding fieldsOf justified fieldOf lineOf
+row = refl
+
+-- "E" and the field "      002"
+leading-zero : readLine (69 ∷ 32 ∷ 32 ∷ 32 ∷ 32 ∷ 32 ∷ 32 ∷ 48 ∷ 48 ∷ 50 ∷ 10 ∷ []) ≡ refuse 6
+unfolding seenTo fieldAt letterOf feed feedAt good values lineBy lineAt
+leading-zero = refl
+
+carriage-return : readLine (69 ∷ 32 ∷ 32 ∷ 32 ∷ 32 ∷ 32 ∷ 32 ∷ 32 ∷ 32 ∷ 50 ∷ 13 ∷ 10 ∷ []) ≡ refuse 5
+unfolding letterOf feed feedAt lineBy lineAt
+carriage-return = refl
+
+-- "hello" with no line feed is 3, whatever its letter
+no-feed : readLine (104 ∷ 101 ∷ 108 ∷ 108 ∷ 111 ∷ []) ≡ refuse 3
+unfolding feed feedAt lineAt
+no-feed = refl

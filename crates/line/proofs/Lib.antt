@@ -1,0 +1,6 @@
+pub mod Fields
+pub mod Lines
+pub mod Alone
+pub mod Bytes
+pub mod RoundTrip
+pub mod Examples

@@ -1,0 +1,21 @@
+-- `line::reading::read_line` meets its contract: the line from the start, which ends at its first line feed and writes back.
+use mathlib.Core.Path.{_≡_, sym}
+use borrow.Author.Needs.{needs}
+use denote.Ref.{now}
+use Rattle.line.specs.RoundTrip.{ReadWritesBack}
+use Rattle.line.proofs.Alone.{ends-at-feed}
+use Rattle.line.proofs.RoundTrip.{read-writes-back}
+use Rattle.line.proofs.reading.read_line.Statement.{statement}
+use Rattle.line.proofs.reading.read_line.Tie as tie
+
+read-line-at-requires : tie.Need-read-line-at-requires
+read-line-at-requires c κs = search needs
+
+returns : tie.Need-returns
+returns c =
+    let s = now (c .before .before .args .s) in
+    let e = c .read-line-at .ensures in
+    (e, rw e (ends-at-feed s), rw e (read-writes-back s))
+
+pub read-line-spec : {M : Type 1} → statement M
+read-line-spec = tie.close (tie.spec read-line-at-requires returns)

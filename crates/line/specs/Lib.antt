@@ -1,0 +1,4 @@
+pub mod Letter
+pub mod Reading
+pub mod Writing
+pub mod RoundTrip

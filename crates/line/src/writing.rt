@@ -1,0 +1,80 @@
+// A line is written, or turned away by 22.
+ghost use mathlib.Core.Path.{_≡_};
+ghost use mathlib.Core.Bool.{true};
+ghost use Prim.Native.Nat.{_+_, _≤_};
+ghost use lib.ListN.{length};
+ghost use Rattle.base.specs.Buffer.{put};
+ghost use Rattle.line.specs.Letter.{countOf, widthOf};
+ghost use Rattle.line.specs.Writing.{smallTo, lineOf, told, writeAnswer, afterWrite};
+ghost use Rattle.line.specs.RoundTrip.{WrittenReadsBack};
+use super::letter::Line;
+use super::letter::byte_of;
+use super::letter::count_of;
+
+// The length of the line that was written, or the refusal.
+pub enum Written {
+    Length(usize),
+    Refused(u32),
+}
+
+// No number of the first k exceeds 99,999,999.
+fn small(numbers: [u32; 14], k: usize) -> bool
+    requires { ⌜ k ≤ 14 ⌝ }
+    ensures { λ r. ⌜ r ≡ smallTo numbers k ⌝ }
+{
+    let mut j: usize = 0;
+    while j < k {
+        if 99_999_999 < numbers[j] {
+            return false;
+        }
+        j += 1;
+    }
+    true
+}
+
+// Writes a line from `at` on, where it has room and its numbers are small.
+fn lay_line(out: &mut [u8], at: usize, line: Line)
+    requires { ⌜ (at + widthOf (line .letter) ≤ length (now out)) × (smallTo (line .numbers) (countOf (line .letter)) ≡ true) ⌝ }
+    ensures { λ _. ⌜ now (out .exit) ≡ put (now (out .entry)) at (lineOf line) ⌝ }
+{
+    let letter = line.letter;
+    let numbers = line.numbers;
+    let k = count_of(letter);
+    out[at] = byte_of(letter);
+    let mut j: usize = 0;
+    while j < k {
+        field::write_field(out, at + 1 + 9 * j, numbers[j]);
+        j += 1;
+    }
+    out[at + 1 + 9 * k] = 10;
+}
+
+// Writes a line from `at` on: its length, or 22 with nothing written where a number exceeds 99,999,999 or
+// there is no room.
+pub fn write_line_at(out: &mut [u8], at: usize, line: Line) -> Written
+    ensures { λ r. ⌜ (told r ≡ writeAnswer line at (length (now (out .entry)))) × (now (out .exit) ≡ afterWrite line at (now (out .entry))) ⌝ }
+{
+    let letter = line.letter;
+    let numbers = line.numbers;
+    let k = count_of(letter);
+    let width = 2 + 9 * k;
+    if out.len() < width {
+        return Written::Refused(22);
+    }
+    if out.len() - width < at {
+        return Written::Refused(22);
+    }
+    if small(numbers, k) {
+        lay_line(out, at, line);
+        Written::Length(width)
+    } else {
+        Written::Refused(22)
+    }
+}
+
+// One line alone, from the buffer's start.
+pub fn write_line(out: &mut [u8], line: Line) -> Written
+    ensures { λ r. ⌜ (told r ≡ writeAnswer line 0 (length (now (out .entry)))) × (now (out .exit) ≡ afterWrite line 0 (now (out .entry))) × WrittenReadsBack line (now (out .entry)) (now (out .exit)) ⌝ }
+{
+    write_line_at(out, 0, line)
+}
