@@ -1,6 +1,7 @@
 pub mod Tests
 pub mod Choice
 pub mod Numbers
+pub mod Answer
 pub mod Product
 pub mod Rounding
 pub mod Fraction

@@ -1,0 +1,54 @@
+-- Figures of the rack card on mean level and tape allowance, each by computation.
+use Prim.Native.Nat.{ℕ}
+use mathlib.Core.Path.{_≡_, refl}
+use mathlib.Core.List.{List, [], _∷_}
+use Rattle.base.specs.Rounding.{rounded}
+use Rattle.base.specs.Answer.{figures, refusal}
+use Rattle.level.specs.Level.{meanLevel, unusedBad, disagree, readingsTests, meanLevelAnswer}
+use Rattle.level.specs.Tape.{allowanceAnswer}
+
+-- Levels in mm. The number of readings, the readings, and the answer.
+
+pub closest-three : meanLevelAnswer 4 (1_500 ∷ 1_504 ∷ 1_501 ∷ 1_502 ∷ []) ≡ figures (1_501 ∷ [])
+unfolding meanLevelAnswer readingsTests unusedBad disagree meanLevel rounded
+closest-three = refl
+
+-- two triples as close: the lower one
+pub lower-triple : meanLevelAnswer 4 (1_500 ∷ 1_503 ∷ 1_501 ∷ 1_502 ∷ []) ≡ figures (1_501 ∷ [])
+unfolding meanLevelAnswer readingsTests unusedBad disagree meanLevel rounded
+lower-triple = refl
+
+pub two-apart : meanLevelAnswer 2 (1_500 ∷ 1_502 ∷ 0 ∷ 0 ∷ []) ≡ refusal 15
+unfolding meanLevelAnswer readingsTests unusedBad disagree meanLevel rounded
+two-apart = refl
+
+-- a half goes up
+pub two-agree : meanLevelAnswer 2 (1_500 ∷ 1_501 ∷ 0 ∷ 0 ∷ []) ≡ figures (1_501 ∷ [])
+unfolding meanLevelAnswer readingsTests unusedBad disagree meanLevel rounded
+two-agree = refl
+
+pub level-nought : meanLevelAnswer 2 (0 ∷ 0 ∷ 0 ∷ 0 ∷ []) ≡ refusal 16
+unfolding meanLevelAnswer readingsTests unusedBad disagree meanLevel rounded
+level-nought = refl
+
+-- Levels in mm and tape allowances in 0.01 mm.
+
+pub first-metre : allowanceAnswer 1_000 ≡ figures (30 ∷ [])
+unfolding allowanceAnswer
+first-metre = refl
+
+pub second-metre-begun : allowanceAnswer 1_001 ≡ figures (45 ∷ [])
+unfolding allowanceAnswer
+second-metre-begun = refl
+
+pub last-level : allowanceAnswer 3_600 ≡ figures (75 ∷ [])
+unfolding allowanceAnswer
+last-level = refl
+
+pub no-level : allowanceAnswer 0 ≡ refusal 16
+unfolding allowanceAnswer
+no-level = refl
+
+pub above-last-level : allowanceAnswer 3_601 ≡ refusal 16
+unfolding allowanceAnswer
+above-last-level = refl

@@ -1,0 +1,26 @@
+// The tape allowance (002, 14.1.1).
+ghost use mathlib.Core.Path.{_≡_};
+ghost use Rattle.level.specs.Tape.{allowanceAnswer, allowanceTold};
+
+// Hundredths of a millimetre, for 1, 2, 3, 4 whole and part metres.
+const ALLOWANCES: [u32; 4] = [30, 45, 60, 75];
+
+// An allowance in 0.01 mm, or the number of a refusal.
+pub enum Allowance {
+    HundredthsOfMillimetre(u32),
+    Refused(u32),
+}
+
+// The tape allowance for a level of 1 to 3,600 mm; refusal 16 for any other.
+pub fn tape_allowance(level: u32) -> Allowance
+    ensures { λ r. ⌜ allowanceTold r ≡ allowanceAnswer level ⌝ }
+{
+    if level < 1 {
+        return Allowance::Refused(16);
+    }
+    if 3_600 < level {
+        return Allowance::Refused(16);
+    }
+    let metre = ((level - 1) / 1_000) as usize;
+    Allowance::HundredthsOfMillimetre(ALLOWANCES[metre])
+}

@@ -1,0 +1,8 @@
+pub mod Verdict
+pub mod Table
+pub mod Held
+pub mod Rising
+pub mod Capacity
+pub mod Search
+pub mod Answers
+pub mod Card

@@ -1,0 +1,4 @@
+pub mod Table
+pub mod Capacity
+pub mod Exact
+pub mod Held
