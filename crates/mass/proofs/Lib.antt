@@ -1,0 +1,9 @@
+pub mod Budget
+pub mod Bounds
+pub mod Proper
+pub mod Order
+pub mod Distance
+pub mod Total
+pub mod Verdict
+pub mod Limits
+pub mod Card

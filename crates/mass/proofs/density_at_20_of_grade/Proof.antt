@@ -1,0 +1,65 @@
+-- `mass::density_at_20_of_grade` meets its contract: the first of 13, 19 and 21 whose test applies, else the density at 20 °C.
+use borrow.Author.Needs.{needs}
+use mathlib.Core.Path.{_≡_}
+use mathlib.Core.Bool.{false}
+use native.Mathlib.Omega.{arith}
+use Rattle.mass.specs.Grades.{gradeBad, densityBad, density20Bad}
+use Rattle.mass.proofs.Verdict.{applies, passes}
+use Rattle.mass.proofs.Limits.{density-in-range}
+use Rattle.mass.proofs.density_at_20_of_grade.Statement.{statement}
+use Rattle.mass.proofs.density_at_20_of_grade.Tie as tie
+
+not13 : (c : tie.Else1) → gradeBad (c .before .before .args .grade) ≡ false
+not13 c = passes 13 _ (c .before .grade-refusal .ensures) (c .if1 .left) (omega arith)
+
+not19 : (c : tie.Else2) → densityBad (c .before .before .before .before .args .density .0) ≡ false
+not19 c = passes 19 _ (c .before .density-refusal .ensures) (c .if2 .left) (omega arith)
+
+not21 : (c : tie.Else3)
+    → let a = c .before .before .before .before .before .before .args in density20Bad (a .grade) (a .density .0) ≡ false
+not21 c = passes 21 _ (c .before .density-20-refusal .ensures) (c .if3 .left) (omega arith)
+
+grade-refusal-requires : tie.Need-grade-refusal-requires
+grade-refusal-requires c κs = search needs
+
+returns : tie.Need-returns
+returns c =
+    let h = applies 13 (gradeBad (c .before .before .args .grade)) (c .before .grade-refusal .ensures) (c .if1 .taken) in
+    rw (h .0, h .1)
+
+density-refusal-requires : tie.Need-density-refusal-requires
+density-refusal-requires c κs = search needs
+
+returns-2 : tie.Need-returns-2
+returns-2 c =
+    let h = applies 19 (densityBad (c .before .before .before .before .args .density .0)) (c .before .density-refusal .ensures) (c .if2 .taken) in
+    rw (not13 (c .before .before), h .0, h .1)
+
+density-20-refusal-requires : tie.Need-density-20-refusal-requires
+density-20-refusal-requires c κs = density-in-range _ (not19 c)
+
+returns-3 : tie.Need-returns-3
+returns-3 c =
+    let a = c .before .before .before .before .before .before .args in
+    let h = applies 21 (density20Bad (a .grade) (a .density .0)) (c .before .density-20-refusal .ensures) (c .if3 .taken) in
+    rw (not13 (c .before .before .before .before), not19 (c .before .before), h .0, h .1)
+
+density-20-requires : tie.Need-density-20-requires
+density-20-requires c κs = density-in-range _ (not19 (c .before .before))
+
+returns-4 : tie.Need-returns-4
+returns-4 c =
+    rw (not13 (c .before .before .before .before .before), not19 (c .before .before .before), not21 (c .before), c .density-20 .ensures)
+
+pub density-at-20-of-grade-spec : {M : Type 1} → statement M
+density-at-20-of-grade-spec =
+    tie.close
+    (tie.spec
+    grade-refusal-requires
+    returns
+    density-refusal-requires
+    returns-2
+    density-20-refusal-requires
+    returns-3
+    density-20-requires
+    returns-4)

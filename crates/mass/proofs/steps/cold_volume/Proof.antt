@@ -1,0 +1,44 @@
+-- `mass::steps::cold_volume` meets its contract: the product of a hot volume and E fits.
+use borrow.Author.Needs.{needs}
+use mathlib.Core.Path.{_≡_}
+use native.Mathlib.Nat.{mul-le-mul}
+use native.Mathlib.Omega.{arith}
+use Rattle.mass.specs.Steps
+use Rattle.mass.specs.Steps.{coldVolume}
+use Rattle.mass.proofs.Bounds.{coldVolume-most}
+use Rattle.mass.proofs.steps.cold_volume.Statement.{statement}
+use Rattle.mass.proofs.steps.cold_volume.Tie as tie
+
+sub-factor : tie.Need-sub-factor
+sub-factor c = search needs
+
+factor-requires : tie.Need-factor-requires
+factor-requires c κs = search needs
+
+mul-round-half-up : tie.Need-mul-round-half-up
+mul-round-half-up c = omega (arith, mul-le-mul (c .before .pre .0) (c .factor .ensures .1))
+
+round-half-up-requires : tie.Need-round-half-up-requires
+round-half-up-requires c κs = search needs
+
+cast-result : tie.Need-cast-result
+unfolding coldVolume
+cast-result c =
+    let a = c .before .before in
+    let e : c .round-half-up .result ≡ Steps.coldVolume (a .args .vt) (a .args .density .0) (a .args .temperature) = cc in
+    omega (arith, coldVolume-most (a .pre .1 .light) (a .pre .3) (a .pre .0))
+
+returns : tie.Need-returns
+unfolding coldVolume
+returns c = cc
+
+pub cold-volume-spec : {M : Type 1} → statement M
+cold-volume-spec =
+    tie.close
+    (tie.spec
+    sub-factor
+    factor-requires
+    mul-round-half-up
+    round-half-up-requires
+    cast-result
+    returns)

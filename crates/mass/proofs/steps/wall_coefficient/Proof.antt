@@ -1,0 +1,20 @@
+-- `mass::steps::wall_coefficient` meets its contract: at each return the tests that led there decide those of the definition.
+use Rattle.base.proofs.Tests.{decide}
+use Rattle.mass.specs.Steps.{wall}
+use Rattle.mass.proofs.steps.wall_coefficient.Statement.{statement}
+use Rattle.mass.proofs.steps.wall_coefficient.Tie as tie
+
+returns : tie.Need-returns
+unfolding wall
+returns c = search decide
+
+returns-2 : tie.Need-returns-2
+unfolding wall
+returns-2 c = search decide
+
+returns-3 : tie.Need-returns-3
+unfolding wall
+returns-3 c = search decide
+
+pub wall-coefficient-spec : {M : Type 1} → statement M
+wall-coefficient-spec = tie.close (tie.spec returns returns-2 returns-3)
