@@ -1,0 +1,9 @@
+pub mod Verdict
+pub mod Accepted
+pub mod Tests
+pub mod Close
+pub mod Order
+pub mod Book
+pub mod Entering
+pub mod Card
+pub mod Witness
