@@ -97,6 +97,13 @@ lineBy s at end (Is letter) =
 unfoldable pub lineAt : List ℕ → ℕ → Due → LineRead
 lineAt s at due = cond (ltb (feedAt s at) (length s)) (lineBy s at (feedAt s at) (letterOf (getD s at 0) due)) (refuse 3)
 
+-- where only a row may come, and what an R line with the numbers a and b is read as
+abbrev pub rowOnly : Due
+rowOnly = record { table = false; row = true; car = false; end = false }
+
+abbrev pub rowOf : ℕ → ℕ → LineRead
+rowOf a b = record { reading = Read Row; numbers = filled (a ∷ b ∷ []) 2 }
+
 -- one line alone, which may bear any letter of a sheet
 abbrev pub readLine : List ℕ → LineRead
 readLine s = lineAt s 0 any

@@ -1,8 +1,9 @@
 // A line is read, or turned away by the first of 3, 4, 5 and 6 that applies.
 ghost use mathlib.Core.Path.{_≡_};
+ghost use mathlib.Core.Bool.{true, false};
 ghost use Prim.Native.Nat.{_+_, _*_, _≤_};
 ghost use lib.ListN.{length};
-ghost use Rattle.line.specs.Reading.{letterIf, letterOf, feedAt, numbersAt, refuse, lineAt, readLine, EndsAtFeed};
+ghost use Rattle.line.specs.Reading.{letterIf, letterOf, feedAt, numbersAt, refuse, lineAt, rowOnly, rowOf, readLine, EndsAtFeed};
 ghost use Rattle.line.specs.RoundTrip.{ReadWritesBack};
 use super::letter::Letter;
 use super::letter::count_of;
@@ -26,6 +27,13 @@ pub enum Reading {
 pub struct LineRead {
     pub reading: Reading,
     pub numbers: [u32; 14],
+}
+
+// The two numbers of an R line, where good is true.
+pub struct Pair {
+    pub good: bool,
+    pub first: u32,
+    pub second: u32,
 }
 
 // The letter that a byte is, if it may come next.
@@ -174,6 +182,49 @@ pub fn read_line_at(s: &[u8], at: usize, due: Due) -> LineRead
         }
     }
     find_line_at(s, at, due)
+}
+
+fn no_row() -> Pair
+    ensures { λ r. ⌜ r .good ≡ false ⌝ }
+{
+    Pair {
+        good: false,
+        first: 0,
+        second: 0,
+    }
+}
+
+// The R line that starts at `at`, where there is one as it should be; else good is false.
+pub fn row_at(s: &[u8], at: usize) -> Pair
+    ensures { λ r. ⌜ (r .good ≡ true → lineAt (now (s .entry)) at rowOnly ≡ rowOf (r .first) (r .second)) ⌝ }
+{
+    if s.len() < 20 {
+        return no_row();
+    }
+    if s.len() - 20 < at {
+        return no_row();
+    }
+    if s[at] != b'R' {
+        return no_row();
+    }
+    if s[at + 19] != 10 {
+        return no_row();
+    }
+    let level = field::read_field(s, at + 1);
+    match level {
+        Field::Number(first) => {
+            let capacity = field::read_field(s, at + 10);
+            match capacity {
+                Field::Number(second) => Pair {
+                    good: true,
+                    first,
+                    second,
+                },
+                Field::NotNumber => no_row(),
+            }
+        }
+        Field::NotNumber => no_row(),
+    }
 }
 
 // One line alone, of any of the sheet's letters. It ends at its first line feed.

@@ -349,3 +349,9 @@ continues t i = record {
   answers = λ items e. answers-snoc emptyTrain items i ∙ ap (λ (u : Train). answersFrom emptyTrain items ++ (enterAnswer (i .tables) u (i .car) ∷ [])) (sym e);
   kept = λ items. kept (items ++ (i ∷ []));
 }
+
+-- the count and totals of any train that a list of cars hands back
+pub train-low : (items : List Item) → (trainFrom emptyTrain items .accepted ≤ 60) × (trainFrom emptyTrain items .gross ≤ 11_952_180) × (trainFrom emptyTrain items .net ≤ 11_952_180)
+train-low items =
+    let m = run light items emptyTrain [] [] start .last in
+    (omega (arith, m .count, m .few, m .room), omega (arith, m .gross-low, m .few, m .room), omega (arith, m .net-low, m .few, m .room))

@@ -4,6 +4,7 @@ use mass::Density15;
 mod running; // running.rt: the running train
 mod work; // work.rt: a car on its tables
 
+pub use running::enter_on;
 pub use work::work_out;
 
 // A car's fields as on its C line: type (kind), grade, stick, number of readings (count), readings and water level in mm,

@@ -81,33 +81,6 @@ impl Train {
         }
     }
 
-    // The same as `enter`, on tables that 7 and 8 do not turn away: for a caller who has tested them once for many cars.
-    pub fn enter_on(
-        self,
-        d: Directory,
-        levels: &[u32; 1600],
-        capacities: &[u32; 1600],
-        car: Car,
-    ) -> Step
-        requires { ⌜ Good d (now levels) (now capacities) ⌝ }
-        ensures { λ r. ⌜
-            (told (r .answer) ≡ enterAnswer (tablesOf d (now (levels .entry)) (now (capacities .entry))) self car)
-            × (r .train ≡ enterTrain (tablesOf d (now (levels .entry)) (now (capacities .entry))) self car)
-            ⌝ }
-    {
-        let number = car.number;
-        let refusal = self.refusal(number);
-        if refusal != 0 {
-            return Step {
-                answer: CarAnswer::Refused(refusal),
-                train: self,
-            };
-        }
-        let answer = work_on(d, levels, capacities, car);
-        let train = self.with_answer(number, answer);
-        Step { answer, train }
-    }
-
     // Enters a car with its tables: its answer, and the train to hand in with the next.
     pub fn enter(
         self,
@@ -131,6 +104,33 @@ impl Train {
                 train: self,
             };
         }
-        self.enter_on(d, levels, capacities, car)
+        enter_on(self, d, levels, capacities, car)
     }
+}
+
+// The same as `enter`, on tables that 7 and 8 do not turn away: for a caller who has tested them once for many cars.
+pub fn enter_on(
+    running: Train,
+    d: Directory,
+    levels: &[u32; 1600],
+    capacities: &[u32; 1600],
+    car: Car,
+) -> Step
+    requires { ⌜ Good d (now levels) (now capacities) ⌝ }
+    ensures { λ r. ⌜
+        (told (r .answer) ≡ enterAnswer (tablesOf d (now (levels .entry)) (now (capacities .entry))) running car)
+        × (r .train ≡ enterTrain (tablesOf d (now (levels .entry)) (now (capacities .entry))) running car)
+        ⌝ }
+{
+    let number = car.number;
+    let refusal = running.refusal(number);
+    if refusal != 0 {
+        return Step {
+            answer: CarAnswer::Refused(refusal),
+            train: running,
+        };
+    }
+    let answer = work_on(d, levels, capacities, car);
+    let train = running.with_answer(number, answer);
+    Step { answer, train }
 }

@@ -1,0 +1,5 @@
+pub mod Laying
+pub mod Cars
+pub mod Lines
+pub mod Run
+pub mod Tied

@@ -1,0 +1,141 @@
+-- `listing::write_listing` meets its contract: each turn writes a car's line, and S comes last.
+use Prim.Native.Nat.{_-_, _*_}
+use mathlib.Core.Path.{_≡_, sym, ap, _∙_}
+use mathlib.Core.List.{List}
+use native.Mathlib.Omega.{arith}
+use lib.ListN.{take, drop}
+use borrow.Author.Needs.{needs}
+use denote.Ref.{now}
+use Rattle.base.specs.Answer.{Answer, accepts}
+use Rattle.table.specs.Table.{Table, tablesVerdict}
+use Rattle.table.specs.Held.{tablesOf}
+use Rattle.train.specs.declared.Car.{Car}
+use Rattle.train.specs.declared.Train.{Train}
+use Rattle.train.specs.Train.{enterAnswer, enterTrain}
+use Rattle.listing.specs.Listing.{carOf, carLine}
+use Rattle.listing.proofs.Run.{Written, begun, line-room, turn, totals-low, sum-room, ended}
+use Rattle.listing.proofs.write_listing.Statement.{statement}
+use Rattle.listing.proofs.write_listing.Tie as tie
+
+abbrev Inv-loop : tie.InvT-loop
+Inv-loop out₀ d levels capacities fields cars running₀ at₀ i₀ out running at i = Written (tablesOf d levels capacities) fields cars out₀ out running at i
+
+abbrev μ-loop : tie.MeasureT-loop
+μ-loop out₀ d levels capacities fields cars running₀ at₀ i₀ out running at i = cars - i
+
+abbrev all : tie.Start Inv-loop μ-loop → List Table
+all s = tablesOf (s .args .d) (now (s .args .levels)) (now (s .args .capacities))
+
+-- the line that a turn writes
+the-line : (c : tie.After-car-line Inv-loop μ-loop) →
+    let l = c .before .before .before .before .before .before in
+    let s = l .before .before .before in
+    let ns = take 14 (drop (14 * l .loop .i) (now (s .args .fields))) in
+    c .car-line .result ≡ carLine (carOf ns) (enterAnswer (all s) (l .loop .running) (carOf ns))
+the-line c =
+    let e = c .before .before .before in
+    let k = e .before in
+    let l = k .before .before in
+    let s = l .before .before .before in
+    c .car-line .ensures
+    ∙ ap (carLine (k .car-at .result)) (e .enter-on .ensures .0)
+    ∙ ap (λ (x : Car). carLine x (enterAnswer (all s) (l .loop .running) x)) (k .car-at .ensures)
+
+empty-requires : tie.Need-empty-requires Inv-loop μ-loop
+empty-requires c κs = search needs
+
+loop-holds : tie.Need-loop-holds Inv-loop μ-loop
+loop-holds c =
+    let s = c .before .before in
+    rw (c .empty .ensures .0) (begun (all s) (now (s .args .fields)) (s .args .cars) (now (s .args .out)) (s .pre .sixty) (s .pre .space) (s .pre .each))
+
+car-at-requires : tie.Need-car-at-requires Inv-loop μ-loop
+car-at-requires c κs =
+    let s = c .before .before .before .before in
+    omega (arith, s .pre .sixty)
+
+enter-on-requires : tie.Need-enter-on-requires Inv-loop μ-loop
+enter-on-requires c κs = let s = c .before .before .before .before .before in s .pre .good
+
+car-line-requires : tie.Need-car-line-requires Inv-loop μ-loop
+car-line-requires c κs = search needs
+
+lay-requires : tie.Need-lay-requires Inv-loop μ-loop
+lay-requires c κs =
+    let t = c .before .before .before .before .before in
+    let l = t .before in
+    let s = l .before .before .before in
+    rw (the-line c)
+    (line-room (all s) (s .pre .good .accepted) (now (s .args .fields)) (s .args .cars) (now (s .args .out)) (l .loop .out) (l .loop .running) (l .loop .at) (l .loop .i) (l .loop .inv)
+    (t .loop-test .taken))
+
+add-i : tie.Need-add-i Inv-loop μ-loop
+add-i c = search needs
+
+loop-less : tie.Need-loop-less Inv-loop μ-loop
+loop-less c = search needs
+
+loop-again : tie.Need-loop-again Inv-loop μ-loop
+loop-again c =
+    let w = c .before .before in
+    let n = w .before in
+    let e = n .before .before .before in
+    let k = e .before in
+    let t = k .before in
+    let l = t .before in
+    let s = l .before .before .before in
+    turn (all s) (s .pre .good .accepted) (now (s .args .fields)) (s .args .cars) (now (s .args .out)) (l .loop .out) (l .loop .running) (l .loop .at) (l .loop .i) (l .loop .inv)
+    (t .loop-test .taken) (n .car-line .result) (e .enter-on .result .train) (w .lay .last .0) (w .lay .result) (the-line n)
+    (e .enter-on .ensures .1 ∙ ap (enterTrain (all s) (l .loop .running)) (k .car-at .ensures)) (w .lay .ensures .1) (w .lay .ensures .0) (w .lay .kept .0)
+
+totals-line-requires : tie.Need-totals-line-requires Inv-loop μ-loop
+totals-line-requires c κs =
+    let t = c .before in
+    let l = t .before in
+    let s = l .before .before .before in
+    let low =
+    totals-low (all s) (s .pre .good .accepted) (now (s .args .fields)) (s .args .cars) (now (s .args .out)) (l .loop .out) (l .loop .running) (l .loop .at) (l .loop .i) (l .loop .inv)
+    (t .loop-test .left) in
+    (omega (arith, low .1), omega (arith, low .2))
+
+lay-requires-2 : tie.Need-lay-requires-2 Inv-loop μ-loop
+lay-requires-2 c κs =
+    let t = c .before .before in
+    let l = t .before in
+    let s = l .before .before .before in
+    rw (c .totals-line .ensures)
+    (sum-room (all s) (s .pre .good .accepted) (now (s .args .fields)) (s .args .cars) (now (s .args .out)) (l .loop .out) (l .loop .running) (l .loop .at) (l .loop .i) (l .loop .inv)
+    (t .loop-test .left))
+
+same-length : tie.Need-same-length Inv-loop μ-loop
+same-length c = let w = c .before .before in w .lay2 .kept .0 ∙ w .before .before .before .before .loop .inv .same
+
+returns : tie.Need-returns Inv-loop μ-loop
+returns c =
+    let w = c .before .before in
+    let n = w .before in
+    let t = n .before .before in
+    let l = t .before in
+    let s = l .before .before .before in
+    ended (all s) (s .pre .good .accepted) (now (s .args .fields)) (s .args .cars) (now (s .args .out)) (l .loop .out) (l .loop .running) (l .loop .at) (l .loop .i) (l .loop .inv)
+    (t .loop-test .left) (n .totals-line .result) (w .lay2 .last .0) (w .lay2 .result) (n .totals-line .ensures) (w .lay2 .ensures .1) (w .lay2 .ensures .0)
+
+pub write-listing-spec : {M : Type 1} → statement M
+write-listing-spec =
+    tie.close
+    (tie.spec
+    Inv-loop
+    μ-loop
+    empty-requires
+    loop-holds
+    car-at-requires
+    enter-on-requires
+    car-line-requires
+    lay-requires
+    add-i
+    loop-less
+    loop-again
+    totals-line-requires
+    lay-requires-2
+    same-length
+    returns)

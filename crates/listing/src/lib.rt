@@ -1,0 +1,206 @@
+// A sheet answered: the listing of its cars, or the line that says why it is turned away.
+ghost use mathlib.Core.Path.{_≡_};
+ghost use mathlib.Core.Bool.{true};
+ghost use mathlib.Core.List.{[], _∷_};
+ghost use Prim.Native.Nat.{_+_, _*_, _≤_, _<_};
+ghost use lib.ListN.{length, getD, take, drop};
+ghost use Rattle.base.specs.Buffer.{put};
+ghost use Rattle.line.specs.Letter.{widthOf};
+ghost use Rattle.line.specs.Writing.{lineOf, writable};
+ghost use Rattle.table.specs.Held.{tablesOf};
+ghost use Rattle.train.specs.Car.{told};
+ghost use Rattle.train.specs.Train.{emptyTrain};
+ghost use Rattle.sheet.specs.Sheet.{sheetOf};
+ghost use Rattle.sheet.specs.Held.{carsOf};
+ghost use Rattle.listing.specs.Listing.{carOf, carLine, totalsLine, refusedLine, listing, replyOf, afterAnswer};
+ghost use Rattle.listing.specs.Tied.{Tied};
+ghost use Rattle.listing.specs.Underway.{Ready};
+use line::Letter;
+use line::Line;
+use line::Written;
+use mass::Density15;
+use sheet::Outcome;
+use table::Directory;
+use train::Car;
+use train::CarAnswer;
+use train::Train;
+
+// The answer's length in bytes, and the number of the refusal: 1 for too short a buffer, else the sheet's, 0 where it has none.
+pub struct Reply {
+    pub length: usize,
+    pub number: u32,
+}
+
+// Number j of car i of the sheet, whose fourteen numbers stand from 14 i on.
+fn number_at(fields: &[u32; 840], i: usize, j: usize) -> u32
+    requires { ⌜ (i < 60) × (j < 14) ⌝ }
+    ensures { λ r. ⌜ r ≡ getD (take 14 (drop (14 * i) (now (fields .entry)))) j 0 ⌝ }
+{
+    fields[14 * i + j]
+}
+
+// Car i of the sheet.
+fn car_at(fields: &[u32; 840], i: usize) -> Car
+    requires { ⌜ i < 60 ⌝ }
+    ensures { λ r. ⌜ r ≡ carOf (take 14 (drop (14 * i) (now (fields .entry)))) ⌝ }
+{
+    Car {
+        number: number_at(fields, i, 0),
+        kind: number_at(fields, i, 1),
+        grade: number_at(fields, i, 2),
+        stick: number_at(fields, i, 3),
+        count: number_at(fields, i, 4),
+        readings: [
+            number_at(fields, i, 5),
+            number_at(fields, i, 6),
+            number_at(fields, i, 7),
+            number_at(fields, i, 8),
+        ],
+        water_level: number_at(fields, i, 9),
+        temperature: number_at(fields, i, 10),
+        density: Density15(number_at(fields, i, 11)),
+        water: number_at(fields, i, 12),
+        impurities: number_at(fields, i, 13),
+    }
+}
+
+// The A or X line of a car.
+fn car_line(car: Car, answer: CarAnswer) -> Line
+    ensures { λ r. ⌜ r ≡ carLine car (told answer) ⌝ }
+{
+    let mut numbers = [0u32; 14];
+    match answer {
+        CarAnswer::Accepted(f) => {
+            numbers[0] = f.number;
+            numbers[1] = f.level;
+            numbers[2] = f.v0;
+            numbers[3] = f.v15;
+            numbers[4] = f.gross;
+            numbers[5] = f.net;
+            Line {
+                letter: Letter::CarAccepted,
+                numbers,
+            }
+        }
+        CarAnswer::Refused(n) => {
+            numbers[0] = car.number;
+            numbers[1] = n;
+            Line {
+                letter: Letter::CarRefused,
+                numbers,
+            }
+        }
+    }
+}
+
+// The S line of a train.
+fn totals_line(train: Train) -> Line
+    requires { ⌜ (train .gross ≤ 99_999_999) × (train .net ≤ 99_999_999) ⌝ }
+    ensures { λ r. ⌜ r ≡ totalsLine train ⌝ }
+{
+    let mut numbers = [0u32; 14];
+    numbers[0] = train.accepted;
+    numbers[1] = train.gross as u32;
+    numbers[2] = train.net as u32;
+    Line {
+        letter: Letter::Totals,
+        numbers,
+    }
+}
+
+// Writes a line that has room from `at` on, and answers the place behind it.
+fn lay(out: &mut [u8], at: usize, text: Line) -> usize
+    requires { ⌜ writable text at (length (now out)) ≡ true ⌝ }
+    ensures { λ r. ⌜ (r ≡ at + widthOf (text .letter)) × (now (out .exit) ≡ put (now (out .entry)) at (lineOf text)) ⌝ }
+{
+    match line::write_line_at(out, at, text) {
+        Written::Length(n) => at + n,
+        Written::Refused(_) => at,
+    }
+}
+
+// Writes the listing: a line for each car, entered one after another, then S. Answers its length.
+fn write_listing(
+    out: &mut [u8],
+    d: Directory,
+    levels: &[u32; 1600],
+    capacities: &[u32; 1600],
+    fields: &[u32; 840],
+    cars: usize,
+) -> usize
+    requires { ⌜ Ready d (now levels) (now capacities) (now fields) cars (length (now out)) ⌝ }
+    ensures { λ r. ⌜
+        (r ≡ length (listing (tablesOf d (now (levels .entry)) (now (capacities .entry))) (carsOf (now (fields .entry)) cars)))
+        × (now (out .exit) ≡ put (now (out .entry)) 0 (listing (tablesOf d (now (levels .entry)) (now (capacities .entry))) (carsOf (now (fields .entry)) cars)))
+        ⌝ }
+{
+    let mut running = Train::empty();
+    let mut at: usize = 0;
+    let mut i: usize = 0;
+    while i < cars {
+        let car = car_at(fields, i);
+        let step = train::enter_on(running, d, levels, capacities, car);
+        let answer = step.answer;
+        running = step.train;
+        at = lay(out, at, car_line(car, answer));
+        i += 1;
+    }
+    lay(out, at, totals_line(running))
+}
+
+// Writes the Z line: the line number and the refusal.
+fn write_refused(out: &mut [u8], line: u32, number: u32) -> usize
+    requires { ⌜ (3_389 ≤ length (now out)) × (line ≤ 99_999_999) × (number ≤ 99_999_999) ⌝ }
+    ensures { λ r. ⌜ (r ≡ length (lineOf (refusedLine line number))) × (now (out .exit) ≡ put (now (out .entry)) 0 (lineOf (refusedLine line number))) ⌝ }
+{
+    let mut numbers = [0u32; 14];
+    numbers[0] = line;
+    numbers[1] = number;
+    lay(
+        out,
+        0,
+        Line {
+            letter: Letter::SheetRefused,
+            numbers,
+        },
+    )
+}
+
+// Answers a sheet into a lent buffer: the listing of its cars, or its Z line; 1 where the buffer has fewer than 3,389 bytes, and
+// nothing is written. Bytes past the length handed back stay as lent.
+pub fn answer_sheet(text: &[u8], out: &mut [u8]) -> Reply
+    ensures { λ r. ⌜
+        (r ≡ replyOf (now (text .entry)) (length (now (out .entry))))
+        × (now (out .exit) ≡ afterAnswer (now (text .entry)) (now (out .entry)))
+        × (r .length ≤ 3_389) × Tied (sheetOf (now (text .entry)))
+        ⌝ }
+{
+    if out.len() < 3_389 {
+        return Reply {
+            length: 0,
+            number: 1,
+        };
+    }
+    let mut levels = [0u32; 1600];
+    let mut capacities = [0u32; 1600];
+    let mut fields = [0u32; 840];
+    let head = sheet::read_sheet(text, &mut levels, &mut capacities, &mut fields);
+    let outcome = head.outcome;
+    match outcome {
+        Outcome::RefusedAt(line, number) => {
+            let length = write_refused(out, line, number);
+            Reply { length, number }
+        }
+        Outcome::Whole => {
+            let length = write_listing(
+                out,
+                head.directory,
+                &levels,
+                &capacities,
+                &fields,
+                head.cars,
+            );
+            Reply { length, number: 0 }
+        }
+    }
+}

@@ -1,0 +1,187 @@
+-- `sheet::read_step` meets its contract: the line due is read, and its letter picks the rule.
+use Prim.Native.Nat.{ℕ}
+use mathlib.Core.Path.{_≡_, refl, ap, _∙_}
+use mathlib.Core.List.{List, [], _∷_}
+use lib.ListN.{length}
+use types.Run.{OneOf, miss}
+use denote.Enum.Declared.{tagOf}
+use Rattle.line.proofs.letter.Letter.{the-type}
+use Rattle.line.specs.declared.letter.Letter.{Letter}
+use Rattle.line.specs.declared.letter.Letter.the-variants.{Table as T, Row as R, Car as C, End as E, CarAccepted, CarRefused, Totals, SheetRefused}
+use Rattle.line.specs.declared.reading.Due.{Due}
+use Rattle.line.specs.declared.reading.Reading.the-variants.{Read, Refused}
+use Rattle.line.specs.Reading.{lineAt}
+use Rattle.sheet.specs.Sheet.{State, refuse, dueOf, byLetter, stepOf}
+use Rattle.sheet.specs.Held.{stateIn}
+use Rattle.sheet.proofs.Held.{due-held}
+use Rattle.sheet.proofs.Steps.{step-read, row-owed}
+use borrow.Author.Needs.{needs}
+use Rattle.sheet.proofs.read_step.Statement.{statement}
+use Rattle.sheet.proofs.read_step.Tie as tie
+
+-- a letter that is none of the sheet's
+other : (bytes : ℕ) (st : State) (ns : List ℕ) (l : Letter) → OneOf (4 ∷ 5 ∷ 6 ∷ 7 ∷ []) (tagOf the-type l) → refuse st 4 ≡ byLetter bytes st l ns
+other bytes st ns T o = absurd (miss (4 ∷ 5 ∷ 6 ∷ 7 ∷ []) 0 tt o)
+other bytes st ns R o = absurd (miss (4 ∷ 5 ∷ 6 ∷ 7 ∷ []) 1 tt o)
+other bytes st ns C o = absurd (miss (4 ∷ 5 ∷ 6 ∷ 7 ∷ []) 2 tt o)
+other bytes st ns E o = absurd (miss (4 ∷ 5 ∷ 6 ∷ 7 ∷ []) 3 tt o)
+other bytes st ns CarAccepted o = refl
+other bytes st ns CarRefused o = refl
+other bytes st ns Totals o = refl
+other bytes st ns SheetRefused o = refl
+
+-- the state that is handed in
+abbrev given : tie.Start → State
+given z = stateIn (z .args .h) (z .args .levels .now) (z .args .capacities .now) (z .args .fields .now)
+
+-- the line that was read is the definition's
+read : (c : tie.After-read-line-at) →
+    let z = c .before .before .before .before in
+    c .read-line-at .result ≡ lineAt (z .args .s .now) (z .args .h .at) (dueOf (given z))
+read c =
+    let z = c .before .before .before .before in
+    c .read-line-at .ensures
+    ∙ ap (λ (d : Due). lineAt (z .args .s .now) (z .args .h .at) d)
+    (c .before .due-of .ensures ∙ due-held (z .args .h) (z .args .levels .now) (z .args .capacities .now) (z .args .fields .now))
+
+-- what the letter that was found brings
+step : (c : tie.After-known-told) (l : Letter) →
+    let r = c .before .before .before .before in
+    let z = r .before .before .before .before in
+    c .before .reading .given .0 .0 ≡ l
+    → byLetter (length (z .args .s .now)) (given z) l (r .read-line-at .result .numbers) ≡ stepOf (z .args .s .now) (given z)
+step c l e =
+    let r = c .before .before .before .before in
+    let z = r .before .before .before .before in
+    step-read (z .args .s .now) (given z) (r .read-line-at .result) (read r) (Read l) (c .before .reading .given .1 ∙ ap Read e)
+
+due-of-requires : tie.Need-due-of-requires
+due-of-requires c κs = search needs
+
+read-line-at-requires : tie.Need-read-line-at-requires
+read-line-at-requires c κs = search needs
+
+enum-known-reading : tie.Need-enum-known-reading
+enum-known-reading c = search needs
+
+enum-told : tie.Need-enum-told
+enum-told c = search needs
+
+array-read-table-line : tie.Need-array-read-table-line
+array-read-table-line c = search needs
+
+array-read-table-line-2 : tie.Need-array-read-table-line-2
+array-read-table-line-2 c = search needs
+
+table-line-requires : tie.Need-table-line-requires
+table-line-requires c κs = search needs
+
+enum-told-2 : tie.Need-enum-told-2
+enum-told-2 c = search needs
+
+array-read-row-line : tie.Need-array-read-row-line
+array-read-row-line c = search needs
+
+array-read-row-line-2 : tie.Need-array-read-row-line-2
+array-read-row-line-2 c = search needs
+
+row-line-requires : tie.Need-row-line-requires
+row-line-requires c κs =
+    let m = c .before .before .before .before in
+    let r = m .before .before .before .before in
+    let z = r .before .before .before .before in
+    let o = row-owed (z .args .s .now) (given z) (r .read-line-at .result) (read r) (m .before .reading .given .1 ∙ ap Read (c .before .before .enum-told2 .given .1)) in
+    (z .pre, o, z .pre .owing o)
+
+enum-told-3 : tie.Need-enum-told-3
+enum-told-3 c = search needs
+
+car-line-requires : tie.Need-car-line-requires
+car-line-requires c κs = search needs
+
+enum-told-4 : tie.Need-enum-told-4
+enum-told-4 c = search needs
+
+array-read-end-line : tie.Need-array-read-end-line
+array-read-end-line c = search needs
+
+end-line-requires : tie.Need-end-line-requires
+end-line-requires c κs = search needs
+
+refuse-line-requires : tie.Need-refuse-line-requires
+refuse-line-requires c κs = search needs
+
+enum-known-reading-2 : tie.Need-enum-known-reading-2
+enum-known-reading-2 c = search needs
+
+refuse-line-requires-2 : tie.Need-refuse-line-requires-2
+refuse-line-requires-2 c κs = search needs
+
+returns : tie.Need-returns
+returns c =
+    let m = c .before .before .before in
+    let z = m .before .before .before .before .before .before .before .before in
+    c .table-line .ensures (z .args .levels .now) (z .args .capacities .now) (z .args .fields .now) ∙ step m T (c .before .enum-told .given .1)
+
+returns-2 : tie.Need-returns-2
+returns-2 c =
+    let m = c .before .before .before .before .before in
+    let z = m .before .before .before .before .before .before .before .before in
+    c .row-line .ensures (z .args .fields .now) ∙ step m R (c .before .before .before .enum-told2 .given .1)
+
+returns-3 : tie.Need-returns-3
+returns-3 c =
+    let m = c .before .before .before .before in
+    let z = m .before .before .before .before .before .before .before .before in
+    c .car-line .ensures (z .args .levels .now) (z .args .capacities .now) ∙ step m C (c .before .before .enum-told3 .given .1)
+
+returns-4 : tie.Need-returns-4
+returns-4 c =
+    let m = c .before .before .before in
+    let z = m .before .before .before .before .before .before .before .before in
+    c .end-line .ensures (z .args .levels .now) (z .args .capacities .now) (z .args .fields .now) ∙ step m E (c .before .enum-told4 .given .1)
+
+returns-5 : tie.Need-returns-5
+returns-5 c =
+    let m = c .before .before in
+    let z = m .before .before .before .before .before .before .before .before in
+    c .refuse-line .ensures (z .args .levels .now) (z .args .capacities .now) (z .args .fields .now)
+    ∙ other (length (z .args .s .now)) (given z) _ (m .before .reading .given .0 .0) (c .before .match2 .keys5)
+    ∙ step m (m .before .reading .given .0 .0) refl
+
+returns-6 : tie.Need-returns-6
+returns-6 c =
+    let v = c .before .before in
+    let r = v .before .before .before in
+    let z = r .before .before .before .before in
+    c .refuse-line2 .ensures (z .args .levels .now) (z .args .capacities .now) (z .args .fields .now) ∙ step-read (z .args .s .now) (given z) (r .read-line-at .result) (read r) (Refused _) (v .reading2 .given .1)
+
+pub read-step-spec : {M : Type 1} → statement M
+read-step-spec =
+    tie.close
+    (tie.spec
+    due-of-requires
+    read-line-at-requires
+    enum-known-reading
+    enum-told
+    array-read-table-line
+    array-read-table-line-2
+    table-line-requires
+    enum-told-2
+    array-read-row-line
+    array-read-row-line-2
+    row-line-requires
+    enum-told-3
+    car-line-requires
+    enum-told-4
+    array-read-end-line
+    end-line-requires
+    refuse-line-requires
+    enum-known-reading-2
+    refuse-line-requires-2
+    returns
+    returns-2
+    returns-3
+    returns-4
+    returns-5
+    returns-6)

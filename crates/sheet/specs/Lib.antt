@@ -1,0 +1,4 @@
+pub mod Sheet
+pub mod Held
+pub mod Proper
+pub mod Underway

@@ -1,0 +1,134 @@
+-- A whole sheet, read line by line: refusals 2 to 9 of document 01, each with its line number.
+use Prim.Native.Nat.{ℕ, zero, suc, _+_, _-_}
+use mathlib.Core.Bool.{Bool, cond, _&&_, not}
+use mathlib.Core.List.{List, [], _∷_, _++_, map}
+use lib.ListN.{length, getD}
+use lib.Dec.{ltb, leb, eqb}
+use Rattle.line.specs.declared.letter.Letter.{Letter}
+use Rattle.line.specs.declared.letter.Letter.the-variants.{Table as T, Row as R, Car as C, End as E, CarAccepted, CarRefused, Totals, SheetRefused}
+use Rattle.line.specs.declared.reading.Due.{Due}
+use Rattle.line.specs.declared.reading.Reading.{Reading}
+use Rattle.line.specs.declared.reading.Reading.the-variants.{Read, Refused}
+use Rattle.line.specs.Letter.{widthOf}
+use Rattle.line.specs.Reading.{lineAt}
+use Rattle.table.specs.Table.{Row, Table, headBad, firstBad, laterBad}
+
+-- the longest sheet, in bytes, and the most C lines
+abbrev pub longest : ℕ
+longest = 39_771
+
+abbrev pub mostCars : ℕ
+mostCars = 60
+
+-- What reading gives: a line number and a refusal; or the tables, and the fourteen numbers of each C line.
+pub data SheetRead : Type 0 where
+  refusedAt : ℕ → ℕ → SheetRead
+  whole : List Table → List (List ℕ) → SheetRead
+
+-- Where the reading stands: the place and the number of the line due, how many rows the last table still lacks, the tables so far, the last of
+-- them with the rows that were read, and the numbers of each C line so far.
+pub record State : Type 0 where
+  pub at : ℕ
+  pub line : ℕ
+  pub owed : ℕ
+  pub tables : List Table
+  pub cars : List (List ℕ)
+
+-- What a line brings: one more line is due, or the reading is over.
+pub data Step : Type 0 where
+  next : State → Step
+  over : SheetRead → Step
+
+abbrev pub refuse : State → ℕ → Step
+refuse st number = over (refusedAt (st .line) number)
+
+-- on to the line behind one of the letter
+abbrev pub past : Letter → State → ℕ → List Table → List (List ℕ) → Step
+past letter st owed tables cars = next (record { at = st .at + widthOf letter; line = st .line + 1; owed = owed; tables = tables; cars = cars })
+
+-- The letters that may come next: R exactly while rows are owed; else T until a C line was read, and C and E once there is a table.
+abbrev pub dueBy : ℕ → ℕ → ℕ → Due
+dueBy owed tables cars =
+    let settled = eqb owed 0 in
+    record { table = settled && eqb cars 0; row = not settled; car = settled && ltb 0 tables; end = settled && ltb 0 tables }
+
+abbrev pub dueOf : State → Due
+dueOf st = dueBy (st .owed) (length (st .tables)) (length (st .cars))
+
+-- T: 7, else a table that owes its rows.
+abbrev pub kinds : List Table → List ℕ
+kinds = map (λ (t : Table). t .kind)
+
+unfoldable pub tableLine : State → ℕ → ℕ → Step
+tableLine st kind rows =
+    cond (headBad (kinds (st .tables)) kind rows) (refuse st 7)
+    (past T st rows (st .tables ++ (record { kind = kind; rows = [] } ∷ [])) (st .cars))
+
+-- R: 8 by the rows before it in the last table, else one more row there.
+abbrev pub lastRows : List Table → List Row
+lastRows [] = []
+lastRows (t ∷ []) = t .rows
+lastRows (t ∷ u ∷ ts) = lastRows (u ∷ ts)
+
+abbrev pub rowBad : List Row → Row → Bool
+rowBad [] row = firstBad row
+rowBad (before ∷ []) row = laterBad before row
+rowBad (first ∷ second ∷ rows) row = rowBad (second ∷ rows) row
+
+abbrev pub withRow : List Table → Row → List Table
+withRow [] row = []
+withRow (t ∷ []) row = record { kind = t .kind; rows = t .rows ++ (row ∷ []) } ∷ []
+withRow (t ∷ u ∷ ts) row = t ∷ withRow (u ∷ ts) row
+
+unfoldable pub rowLine : State → Row → Step
+rowLine st row = cond (rowBad (lastRows (st .tables)) row) (refuse st 8) (past R st (st .owed - 1) (withRow (st .tables) row) (st .cars))
+
+-- C: 9 for the sixty-first.
+unfoldable pub carLine : State → List ℕ → Step
+carLine st numbers = cond (leb mostCars (length (st .cars))) (refuse st 9) (past C st (st .owed) (st .tables) (st .cars ++ (numbers ∷ [])))
+
+-- E: 9 where its number is not the number of C lines; 9 at the next line's number where bytes follow.
+unfoldable pub endLine : ℕ → State → ℕ → Step
+endLine bytes st count =
+    cond (eqb count (length (st .cars)))
+    (over (cond (eqb (st .at + widthOf E) bytes) (whole (st .tables) (st .cars)) (refusedAt (st .line + 1) 9)))
+    (refuse st 9)
+
+-- a line by its letter and numbers; a letter of an answer may not come
+abbrev pub byLetter : ℕ → State → Letter → List ℕ → Step
+byLetter bytes st T ns = tableLine st (getD ns 0 0) (getD ns 1 0)
+byLetter bytes st R ns = rowLine st (record { level = getD ns 0 0; capacity = getD ns 1 0 })
+byLetter bytes st C ns = carLine st ns
+byLetter bytes st E ns = endLine bytes st (getD ns 0 0)
+byLetter bytes st CarAccepted ns = refuse st 4
+byLetter bytes st CarRefused ns = refuse st 4
+byLetter bytes st Totals ns = refuse st 4
+byLetter bytes st SheetRefused ns = refuse st 4
+
+abbrev pub byReading : ℕ → State → Reading → List ℕ → Step
+byReading bytes st (Read letter) ns = byLetter bytes st letter ns
+byReading bytes st (Refused number) ns = refuse st number
+
+-- the line due: 3 to 6, then 7, 8 or 9
+unfoldable pub stepOf : List ℕ → State → Step
+stepOf s st = let line = lineAt s (st .at) (dueOf st) in byReading (length s) st (line .reading) (line .numbers)
+
+-- line after line, so many turns at most; no sheet has more lines than bytes, so that what stands for no turn left is never answered
+abbrev pub after : (State → SheetRead) → Step → SheetRead
+after rest (next st) = rest st
+after rest (over r) = r
+
+unfoldable pub lines : ℕ → List ℕ → State → SheetRead
+lines zero s st = refusedAt 0 0
+lines (suc turns) s st = after (λ (st′ : State). lines turns s st′) (stepOf s st)
+
+-- all lines from a state on
+abbrev pub linesFrom : List ℕ → State → SheetRead
+linesFrom s st = lines (length s + 1) s st
+
+abbrev pub start : State
+start = record { at = 0; line = 1; owed = 0; tables = []; cars = [] }
+
+-- 2: the sheet is longer than the longest; the line number is 0
+unfoldable pub sheetOf : List ℕ → SheetRead
+sheetOf s = cond (ltb longest (length s)) (refusedAt 0 2) (linesFrom s start)
