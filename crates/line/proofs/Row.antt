@@ -4,7 +4,7 @@ use mathlib.Core.Path.{_≡_, refl, ap, sym, _∙_}
 use mathlib.Core.Bool.{true}
 use mathlib.Core.List.{List, [], _∷_}
 use native.Mathlib.Omega.{arith}
-use lib.ListN.{length, getD, replicate}
+use lib.ListN.{length, getD}
 use Rattle.field.specs.declared.Field.the-variants.{Number}
 use Rattle.field.specs.Field.{fieldAt}
 use Rattle.line.specs.declared.letter.Letter.the-variants.{Row}
