@@ -1,6 +1,5 @@
 -- `rack::main` is safe: the answer's length is within the buffer.
 use mathlib.Core.Path.{sym}
-use native.Mathlib.Omega.{arith}
 use lib.Seq.{length-take-le}
 use borrow.Author.Needs.{needs}
 use Rattle.rack.proofs.main.Statement.{statement}
