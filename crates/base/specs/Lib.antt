@@ -3,3 +3,4 @@ pub mod Fraction
 pub mod Answer
 pub mod Numbers
 pub mod Buffer
+pub mod Lists

@@ -9,6 +9,7 @@ use lib.ListN.{length, length-append}
 use borrow.Author.Tests.{le-leb}
 use Rattle.base.specs.Answer.{Verdict, accepts, refuses, refuseIf, first, numberOf, Answer, figures, refusal, answer}
 use Rattle.base.specs.Numbers.{member}
+use Rattle.base.specs.Lists.{Each}
 use Rattle.line.specs.declared.letter.Line.{Line}
 use Rattle.line.specs.Letter.{widthOf}
 use Rattle.line.specs.Writing.{lineOf, smallTo}
@@ -18,7 +19,6 @@ use Rattle.table.specs.Capacity.{unknown, levelBad, waterBad}
 use Rattle.table.proofs.Rising.{tables-last-most}
 use Rattle.level.specs.Level.{unusedBad, disagree}
 use Rattle.mass.specs.Grades.{gradeBad, stickBad, temperatureBad, densityBad, contentBad, density20Bad}
-use Rattle.mass.specs.Total.{Each}
 use Rattle.mass.proofs.Bounds.{wall-most, hotVolume-most, coldVolume-most}
 use Rattle.mass.specs.Steps as steps
 use Rattle.train.specs.declared.Car.{Car}
@@ -29,7 +29,6 @@ use Rattle.train.specs.Book.{Item}
 use Rattle.train.specs.Demand3.{entered, verdictIn}
 use Rattle.train.proofs.Accepted.{accepted, shows, in-range}
 use Rattle.train.proofs.Close.{masses-most}
-use Rattle.table.proofs.Verdict.{accepted-first}
 use Rattle.listing.specs.Listing.{carLine, totalsLine, refusedLine, listingFrom}
 use Rattle.listing.specs.Tied.{Small}
 

@@ -1,5 +1,5 @@
 -- The loop over the cars of a sheet: what is written and what is still to be written make the whole listing.
-use Prim.Native.Nat.{ℕ, zero, suc, _+_, _-_, _*_, _≤_, _<_}
+use Prim.Native.Nat.{ℕ, _+_, _-_, _*_, _≤_, _<_}
 use mathlib.Core.Path.{_≡_, refl, ap, ap₂, sym, _∙_}
 use mathlib.Core.Bool.{true}
 use mathlib.Core.List.{List, [], _∷_, _++_}
@@ -21,6 +21,7 @@ use Rattle.train.specs.Demand3.{trainFrom}
 use Rattle.train.proofs.Book.{train-low}
 use Rattle.sheet.specs.Held.{carsFrom, carsOf}
 use Rattle.sheet.specs.Proper.{CarNumbers, EachCar}
+use Rattle.sheet.proofs.Held.{length-cars}
 use Rattle.listing.specs.Listing.{carOf, itemsOf, carLine, totalsLine, listingFrom, listing}
 use Rattle.listing.proofs.Lines.{Fit, car-fit, totals-fit}
 
@@ -37,10 +38,6 @@ listing-most ts good t (ns ∷ cars) (h, hs) =
     let f = car-fit ts t (carOf ns) good (number-small ns h) in
     let later : List ℕ = listingFrom (enterTrain ts t (carOf ns)) (itemsOf ts cars) in
     omega (arith, length-append (lineOf l) later, length-lineOf l (f .fourteen), f .width, listing-most ts good (enterTrain ts t (carOf ns)) cars hs)
-
-length-cars : (fields : List ℕ) (i n : ℕ) → length (carsFrom fields i n) ≡ n
-length-cars fields i zero = refl
-length-cars fields i (suc n) = ap suc (length-cars fields (i + 1) n)
 
 -- the cars from number i on
 abbrev left : List ℕ → ℕ → ℕ → List (List ℕ)

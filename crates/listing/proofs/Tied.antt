@@ -8,10 +8,10 @@ use lib.Dec.{ltb}
 use borrow.Author.Tests.{lt-ltb, le-ltb}
 use Rattle.base.specs.Answer.{accepts}
 use Rattle.base.specs.Buffer.{put}
+use Rattle.base.specs.Lists.{Each}
 use Rattle.line.proofs.Bytes.{length-lineOf}
 use Rattle.table.specs.Table.{Table, tablesVerdict}
 use Rattle.table.specs.Held.{tablesOf}
-use Rattle.mass.specs.Total.{Each}
 use Rattle.train.specs.declared.Train.{Train}
 use Rattle.train.specs.Train.{emptyTrain, enterTrain}
 use Rattle.train.specs.Demand3.{trainFrom}

@@ -5,6 +5,7 @@ use mathlib.Core.Bool.{true}
 use mathlib.Core.List.{List, [], _∷_}
 use lib.ListN.{length}
 use Rattle.base.specs.Answer.{accepts, Answer}
+use Rattle.base.specs.Lists.{Each}
 use Rattle.line.specs.declared.letter.Line.{Line}
 use Rattle.line.specs.Letter.{countOf}
 use Rattle.line.specs.Writing.{smallTo}
@@ -13,7 +14,6 @@ use Rattle.train.specs.declared.Train.{Train}
 use Rattle.train.specs.Train.{emptyTrain, enterAnswer, enterTrain}
 use Rattle.train.specs.Book.{Item, loads, bookFrom}
 use Rattle.train.specs.Demand3.{trainFrom, Kept}
-use Rattle.mass.specs.Total.{Each}
 use Rattle.sheet.specs.Sheet.{SheetRead, refusedAt, whole, sheetOf}
 use Rattle.listing.specs.Listing.{itemsOf, carLine, totalsLine, refusedLine}
 

@@ -4,6 +4,5 @@ pub mod Proper
 pub mod Order
 pub mod Distance
 pub mod Total
-pub mod Verdict
 pub mod Limits
 pub mod Card

@@ -1,24 +1,17 @@
 -- What it means that refusals 13 and 18 to 20 do not apply: the ranges in which steps 3 to 9 are worked out.
 use Prim.Native.Nat.{ℕ, zero, suc, _+_, _-_, _≤_, _<_}
 use mathlib.Core.Path.{_≡_, refl}
-use mathlib.Core.Bool.{Bool, true, false, _||_, true≢false}
+use mathlib.Core.Bool.{false}
 use mathlib.Core.List.{List, [], _∷_}
 use native.Mathlib.Omega.{arith}
 use lib.Dec.{ltb, lit≤}
 use lib.ListN.{length, getD}
 use borrow.Author.Tests.{ltb-false}
-use Rattle.base.specs.Numbers.{outside}
+use Rattle.base.specs.Lists.{Each}
+use Rattle.base.proofs.Choice.{neither}
+use Rattle.base.proofs.Numbers.{inside}
 use Rattle.mass.specs.Grades.{gradeBad, byGrade, coldest, waterLimits, impurityLimits, temperatureBad, temperatureBadAnyGrade, densityBad, contentBad, contentBadAnyGrade}
 use Rattle.mass.specs.Masses.{DensityInRange, InRange}
-use Rattle.mass.specs.Total.{Each}
-
-neither : (a b : Bool) → (a || b) ≡ false → (a ≡ false) × (b ≡ false)
-neither true b e = absurd (true≢false e)
-neither false b e = (refl, e)
-
--- a number that is not outside is inside
-pub inside : (low high n : ℕ) → outside low high n ≡ false → (low ≤ n) × (n ≤ high)
-inside low high n e = let h = neither _ _ e in (ltb-false n low (h .0), ltb-false high n (h .1))
 
 -- 19
 pub density-in-range : (r : ℕ) → densityBad r ≡ false → DensityInRange r

@@ -6,9 +6,10 @@ use Prim.Native.Nat.{ℕ, _*_}
 use native.Mathlib.Omega.{arith}
 use lib.ListN.{length}
 use Rattle.base.specs.Fraction.{Frac, Within}
+use Rattle.base.specs.Lists.{Each}
 use Rattle.base.proofs.Choice.{cond-either}
 use Rattle.base.proofs.Near.{near-self, within-add}
-use Rattle.mass.specs.Total.{Each, total, totalˣ, selected}
+use Rattle.mass.specs.Total.{total, totalˣ, selected}
 
 -- what holds of each element holds of each that is selected
 pub each-selected : {A : Type 0} (P : A → Type 0) (test : A → Bool) (l : List A) → Each P l → Each P (selected test l)

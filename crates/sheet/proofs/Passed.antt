@@ -6,17 +6,18 @@ use mathlib.Core.List.{List, [], _∷_, _++_, append-nil}
 use mathlib.Core.Logic.{⊎-elim}
 use native.Mathlib.Nat.{add-zero, zero-add}
 use native.Mathlib.Omega.{arith}
-use lib.Dec.{leb, ltb}
+use lib.Dec.{leb}
 use lib.ListN.{length, getD, length-append}
 use lib.Seq.{append-snoc}
-use borrow.Author.Tests.{leb-false, ltb-false}
+use borrow.Author.Tests.{leb-false}
 use Rattle.base.specs.Answer.{accepts, numberOf}
 use Rattle.base.specs.Numbers.{outside, member}
-use Rattle.base.proofs.Choice.{same}
+use Rattle.base.proofs.Choice.{same, neither}
+use Rattle.base.proofs.Numbers.{inside}
+use Rattle.base.proofs.Answer.{pass, accepted-pass}
 use Rattle.table.specs.declared.Directory.{Directory}
 use Rattle.table.specs.Table.{Row, Table, headBad, firstBad, laterBad, laterVerdict, rowsVerdict, tablesAfter}
 use Rattle.table.specs.Held.{rowsFrom, tablesFrom, tablesOf}
-use Rattle.table.proofs.Verdict.{neither, pass, accepted-pass}
 use Rattle.table.proofs.Table.{table-passed}
 use Rattle.table.proofs.Held.{length-rows}
 use Rattle.sheet.specs.Sheet.{kinds, lastRows, rowBad, withRow}
@@ -27,8 +28,7 @@ pub head-good : (used : List ℕ) (kind rows : ℕ) → headBad used kind rows �
 head-good used kind rows e =
     let a = neither (outside 1 9_999 kind || member kind used || outside 2 400 rows) (leb 4 (length used)) e in
     let b = neither (outside 1 9_999 kind || member kind used) (outside 2 400 rows) (a .0) in
-    let c = neither (ltb rows 2) (ltb 400 rows) (b .1) in
-    (leb-false 4 (length used) (a .1), ltb-false 400 rows (c .1))
+    (leb-false 4 (length used) (a .1), inside 2 400 rows (b .1) .1)
 
 -- The verdict.
 

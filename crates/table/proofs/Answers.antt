@@ -7,15 +7,15 @@ use native.Mathlib.Omega.{arith}
 use lib.Dec.{eqb}
 use borrow.Author.Tests.{ltb-false, leb-false, eqb-false, le-ltb, le-leb, lt-leb, ne-eqb}
 use Rattle.base.specs.Answer.{Verdict, accepts, refuses, refuseIf, first, numberOf, Answer, figures, refusal, answer}
-use Rattle.base.proofs.Choice.{never}
+use Rattle.base.proofs.Choice.{never, neither}
 use Rattle.base.proofs.Near.{Near}
+use Rattle.base.proofs.Answer.{accepted-first, accepted-if, refused-first, answer-figures, answer-refusal}
 use Rattle.table.specs.declared.Volume.{Volume}
 use Rattle.table.specs.declared.Volume.the-variants.{Hundredths, Refused}
 use Rattle.table.specs.Table.{Table, tablesVerdict}
 use Rattle.table.specs.Capacity.{unknown, rowsOf, lastLevel, above, levelBad, waterBad, capacityAt, v0, volumeTests, capacityAnswer, volumeOn, volumeAnswer}
 use Rattle.table.specs.Exact.{v0ˣ}
 use Rattle.table.specs.Held.{told}
-use Rattle.table.proofs.Verdict.{neither, accepted-first, accepted-if, refused-first, answer-figures, answer-refusal}
 use Rattle.table.proofs.Rising.{tables-rising}
 use Rattle.table.proofs.Capacity.{v0-near}
 

@@ -1,4 +1,3 @@
-pub mod Verdict
 pub mod Table
 pub mod Held
 pub mod Rising

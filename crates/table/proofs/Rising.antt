@@ -9,9 +9,10 @@ use lib.Dec.{leb, ltb, eqb}
 use lib.ListN.{length}
 use borrow.Author.Tests.{leb-false, ltb-false, eqb-true, not-false}
 use Rattle.base.specs.Answer.{accepts}
+use Rattle.base.proofs.Choice.{neither}
+use Rattle.base.proofs.Answer.{accepted-pass}
 use Rattle.table.specs.Table.{Row, Table, firstBad, laterBad, laterVerdict, rowsVerdict, tablesVerdict}
 use Rattle.table.specs.Capacity.{unknown, rowsOf, lastLevel}
-use Rattle.table.proofs.Verdict.{neither, accepted-pass}
 use Rattle.table.proofs.Table.{good-rows}
 
 pub record Follows (low high : Row) : Type 0 where

@@ -5,9 +5,9 @@ use mathlib.Core.List.{List, [], _∷_}
 use native.Mathlib.Nat.{le-trans}
 use borrow.Author.Tests.{le-ltb, lt-ltb, le-leb, lt-leb, eq-eqb, ne-eqb}
 use Rattle.base.specs.Answer.{Verdict, refuseIf, Answer, figures, refusal, answer}
+use Rattle.base.proofs.Answer.{first-one}
 use Rattle.table.specs.Table.{Row, Table}
 use Rattle.table.specs.Capacity.{above, gapAfter, linear, capacityAt, capacityAnswer}
-use Rattle.table.proofs.Verdict.{first-one}
 use Rattle.table.proofs.Rising.{RisingFrom, last-least}
 
 -- what is found in the rows after `low`

@@ -5,13 +5,15 @@ use mathlib.Core.Bool.{Bool, true, false, cond, _||_, true≢false}
 use mathlib.Core.List.{List, [], _∷_, _++_}
 use native.Mathlib.Omega.{arith}
 use lib.ListN.{length}
-use lib.Dec.{leb, ltb, eqb}
-use borrow.Author.Tests.{leb-false, ltb-false}
+use lib.Dec.{leb, eqb}
+use borrow.Author.Tests.{leb-false}
 use Rattle.base.specs.Answer.{Verdict, accepts, refuses, refuseIf, first, numberOf}
 use Rattle.base.specs.Numbers.{outside, member}
+use Rattle.base.proofs.Choice.{neither}
+use Rattle.base.proofs.Numbers.{inside}
+use Rattle.base.proofs.Answer.{first-one, accepted-first, accepted-if, Proper, proper-if, proper-first, proper-pass, refused-first}
 use Rattle.table.specs.Table.{Row, Table, headBad, firstBad, laterBad, laterVerdict, rowsVerdict, tablesAfter, tablesVerdict}
 use Rattle.table.specs.Capacity.{unknown, rowsOf}
-use Rattle.table.proofs.Verdict.{neither, first-one, accepted-first, accepted-if, Proper, proper-if, proper-first, proper-pass, refused-first}
 
 -- Tables that are passed or not, one by one.
 
@@ -69,11 +71,11 @@ next-table used t ts e =
     let q = accepted-first (rowsVerdict (t .rows)) (more ∷ []) (p .1) in
     let a = neither (outside 1 9_999 (t .kind) || member (t .kind) used || outside 2 400 n) (leb 4 (length used)) (accepted-if 7 bad (p .0)) in
     let b = neither (outside 1 9_999 (t .kind) || member (t .kind) used) (outside 2 400 n) (a .0) in
-    let c = neither (ltb n 2) (ltb 400 n) (b .1) in
+    let c = inside 2 400 n (b .1) in
     record {
       few = leb-false 4 (length used) (a .1);
-      two = ltb-false n 2 (c .0);
-      most = ltb-false 400 n (c .1);
+      two = c .0;
+      most = c .1;
       good = q .0;
       rest = accepted-first more [] (q .1) .0;
     }

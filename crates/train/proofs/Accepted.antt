@@ -9,17 +9,18 @@ use lib.Dec.{eqb}
 use borrow.Author.Tests.{ltb-false, leb-false, eqb-false}
 use Rattle.base.specs.Fraction.{_+ᶠ_, _≤ᶠ_}
 use Rattle.base.specs.Answer.{accepts, first}
+use Rattle.base.specs.Lists.{Each}
+use Rattle.base.proofs.Choice.{neither}
+use Rattle.base.proofs.Answer.{accepted-if, all-accept}
 use Rattle.table.specs.Table.{Table, tablesVerdict}
 use Rattle.table.specs.Capacity.{unknown, lastLevel, above, capacityAt}
 use Rattle.table.specs.Exact.{capacityAtˣ}
-use Rattle.table.proofs.Verdict.{neither, accepted-if}
 use Rattle.table.proofs.Rising.{Rising, tables-rising}
 use Rattle.table.proofs.Capacity.{v0-near, v0-whole, v0ˣ-whole}
 use Rattle.mass.specs.Grades.{gradeBad, stickBad}
 use Rattle.mass.specs.Masses.{InRange, DensityInRange}
 use Rattle.mass.specs.Distance.{Shows}
 use Rattle.mass.specs.Proper.{NothingCut}
-use Rattle.mass.specs.Total.{Each}
 use Rattle.mass.proofs.Limits.{temperature-in-range, density-in-range, content-in-range}
 use Rattle.mass.proofs.Distance.{shown-near}
 use Rattle.mass.proofs.Proper.{nothing-cut}
@@ -27,7 +28,6 @@ use Rattle.train.specs.declared.Car.{Car}
 use Rattle.train.specs.Car.{level, rows, carTests, v0}
 use Rattle.train.specs.Work.{lateTests}
 use Rattle.train.specs.Exact.{volumeˣ}
-use Rattle.train.proofs.Verdict.{all-accept}
 
 -- what 18 to 20 leave of the fields
 pub record Fields (c : Car) : Type 0 where

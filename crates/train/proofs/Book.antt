@@ -13,11 +13,12 @@ use lib.Seq.{take-suc-set}
 use Rattle.base.specs.Answer.{Verdict, accepts, refuses, refuseIf, first, Answer, figures, refusal, answer}
 use Rattle.base.specs.Fraction.{Frac, _+ᶠ_, Within}
 use Rattle.base.specs.Numbers.{member}
+use Rattle.base.specs.Lists.{Each}
 use Rattle.base.proofs.Choice.{never}
 use Rattle.table.specs.Table.{Table, tablesVerdict}
 use Rattle.mass.specs.Exact.{Power}
 use Rattle.mass.specs.Distance.{grossRoom, netRoom}
-use Rattle.mass.specs.Total.{Each, total, totalˣ, selected}
+use Rattle.mass.specs.Total.{total, totalˣ, selected}
 use Rattle.mass.proofs.Total.{each-selected, total-within, total-same}
 use Rattle.train.specs.declared.Car.{Car}
 use Rattle.train.specs.declared.Train.{Train}

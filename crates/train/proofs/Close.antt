@@ -6,8 +6,8 @@ use native.Mathlib.Nat.{le-trans}
 use Rattle.base.specs.Answer.{Verdict, accepts, refuses, refuseIf, first, Answer, figures, answer}
 use Rattle.base.specs.Fraction.{Within}
 use Rattle.base.specs.Numbers.{member}
+use Rattle.base.proofs.Answer.{accepted-first}
 use Rattle.table.specs.Table.{Table, tablesVerdict}
-use Rattle.table.proofs.Verdict.{accepted-first}
 use Rattle.mass.specs.Exact.{Power}
 use Rattle.mass.specs.Distance.{grossRoom, netRoom}
 use Rattle.mass.proofs.Distance.{gross-within, net-within, gross-below, net-below}

@@ -1,17 +1,16 @@
 -- Laws of entering a car: when a train takes one more, and what the car's own answer makes of the train.
-use Prim.Native.Nat.{ℕ, _≤_, _<_}
+use Prim.Native.Nat.{ℕ, _≤_}
 use mathlib.Core.Path.{_≡_, refl, ap, sym, _∙_}
-use mathlib.Core.Bool.{Bool, true, false, _||_}
+use mathlib.Core.Bool.{false, _||_}
 use mathlib.Core.List.{List, [], _∷_}
 use native.Mathlib.Omega.{arith}
 use lib.Dec.{leb, ltb}
 use borrow.Author.Tests.{le-ltb, lt-leb, leb-false, ltb-false}
-use Rattle.base.specs.Answer.{Verdict, accepts, refuses, refuseIf, first, numberOf, Answer, figures, refusal, answer}
+use Rattle.base.specs.Answer.{Verdict, accepts, refuses, refuseIf, first, numberOf, refusal, answer}
 use Rattle.base.specs.Numbers.{member}
-use Rattle.base.proofs.Answer.{Numbered, numbered-first, refused-first}
-use Rattle.base.proofs.Choice.{never}
+use Rattle.base.proofs.Choice.{never, neither}
+use Rattle.base.proofs.Answer.{accepted-if, by-number, first-one, accepted-first, Proper, proper-if, proper-each}
 use Rattle.table.specs.Table.{Table, tablesVerdict}
-use Rattle.table.proofs.Verdict.{neither, accepted-if, accepted-first}
 use Rattle.train.specs.declared.Car.{Car}
 use Rattle.train.specs.declared.CarAnswer.{CarAnswer}
 use Rattle.train.specs.declared.CarAnswer.the-variants.{Accepted, Refused}
@@ -42,29 +41,19 @@ not-full-open t e =
 -- past 9 and 10 only 11 is left
 pub eleven-left : (t : Train) (number : ℕ) → Open t → 1 ≤ number → number ≤ 99_999_999
     → numberOf (first (trainTests t number)) ≡ numberOf (refuseIf 11 (member number (heldBy t)))
-eleven-left t number o h k = simp (open-not-full t o, le-ltb number 1 h, le-ltb 99_999_999 number k) (only (member number (heldBy t)))
-  where
-    only : (b : Bool) → numberOf (first (refuseIf 11 b ∷ [])) ≡ numberOf (refuseIf 11 b)
-    only true = refl
-    only false = refl
+eleven-left t number o h k = simp (open-not-full t o, le-ltb number 1 h, le-ltb 99_999_999 number k) (ap numberOf (first-one (refuseIf 11 (member number (heldBy t)))))
 
 -- where no number is handed on, none of 9 to 11 applies
-train-numbered : (t : Train) (number : ℕ) → Numbered (first (trainTests t number))
-train-numbered t number =
-    numbered-first 9 (full t) (refuseIf 10 (numberBad number) ∷ refuseIf 11 (member number (heldBy t)) ∷ []) (omega arith)
-    (numbered-first 10 (numberBad number) (refuseIf 11 (member number (heldBy t)) ∷ []) (omega arith)
-    (numbered-first 11 (member number (heldBy t)) [] (omega arith) (λ e. refl)))
+train-proper : (t : Train) (number : ℕ) → Proper (first (trainTests t number))
+train-proper t number =
+    proper-each (trainTests t number)
+    (proper-if 9 (full t) (omega arith), (proper-if 10 (numberBad number) (omega arith), (proper-if 11 (member number (heldBy t)) (omega arith), tt)))
 
 pub opened : (t : Train) (number : ℕ) → numberOf (first (trainTests t number)) ≡ 0 → Open t
 opened t number e =
     not-full-open t
     (accepted-if 9 (full t)
-    (accepted-first (refuseIf 9 (full t)) (refuseIf 10 (numberBad number) ∷ refuseIf 11 (member number (heldBy t)) ∷ []) (train-numbered t number e) .0))
-
--- a number that is not 0 is that of a refusal
-by-number : (v : Verdict) {k : ℕ} → k ≡ numberOf v → (k ≡ 0 → ⊥) → v ≡ refuses k
-by-number accepts e n = absurd (n e)
-by-number (refuses m) e n = ap refuses (sym e)
+    (accepted-first (refuseIf 9 (full t)) (refuseIf 10 (numberBad number) ∷ refuseIf 11 (member number (heldBy t)) ∷ []) (train-proper t number e) .0))
 
 -- On tables that are not refused.
 
@@ -85,13 +74,9 @@ module _ (ts : List Table) (t : Train) (c : Car) (good : tablesVerdict ts ≡ ac
       → (told a ≡ enterAnswer ts t c) × (withAnswer t (c .number) a ≡ enterTrain ts t c)
   unfolding ownAnswer enterTrain
   taken-in a z e =
-      let h : headVerdict ts t c ≡ accepts = head-tests ∙ train-numbered t (c .number) z in
-      (simp h (e ∙ ap (λ (v : Verdict). answer v (sixFigures ts c)) (only (first (carTests ts c)))), simp h (by-answer a (first (carTests ts c)) e))
+      let h : headVerdict ts t c ≡ accepts = head-tests ∙ train-proper t (c .number) z in
+      (simp h (e ∙ ap (λ (v : Verdict). answer v (sixFigures ts c)) (sym (first-one (first (carTests ts c))))), simp h (by-answer a (first (carTests ts c)) e))
     where
-      only : (v : Verdict) → v ≡ first (v ∷ [])
-      only accepts = refl
-      only (refuses n) = refl
-
       by-answer : (a : CarAnswer) (v : Verdict) → told a ≡ answer v (sixFigures ts c) → withAnswer t (c .number) a ≡ afterBy accepts v ts t c
       by-answer (Accepted f) accepts e =
           let g : f .gross ≡ gross ts c = cc in

@@ -1,4 +1,3 @@
-pub mod Verdict
 pub mod Accepted
 pub mod Tests
 pub mod Close

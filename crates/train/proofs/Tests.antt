@@ -5,20 +5,19 @@ use mathlib.Core.Bool.{true, false, _||_}
 use mathlib.Core.List.{List, [], _∷_, _++_}
 use native.Mathlib.Omega.{arith}
 use Rattle.base.specs.Answer.{Verdict, accepts, refuses, refuseIf, first, numberOf, refusal, answer}
-use Rattle.base.proofs.Answer.{refused-first, accepted-first}
+use Rattle.base.proofs.Answer.{refused-append, accepted-append, first-one, accepted-if, answer-figures, proper-if, all-accept, proper-each, refuses-append}
+use Rattle.base.proofs.Choice.{neither}
 use Rattle.level.specs.Level.{unusedBad, disagree, readingsTests}
 use Rattle.table.specs.Table.{Table, tablesVerdict}
 use Rattle.table.specs.Capacity.{unknown, levelBad, waterBad, volumeTests, volumeOn}
 use Rattle.table.specs.Held.{told}
 use Rattle.table.specs.declared.Volume.{Volume}
 use Rattle.table.specs.declared.Volume.the-variants.{Hundredths, Refused}
-use Rattle.table.proofs.Verdict.{neither, first-one, accepted-if, answer-figures, proper-if}
 use Rattle.table.proofs.Answers.{volume-refused}
 use Rattle.mass.specs.Grades.{gradeBad, stickBad, temperatureBad, densityBad, contentBad, density20Bad}
 use Rattle.train.specs.declared.Car.{Car}
 use Rattle.train.specs.Car.{numberBad, level, rows, carTests, aloneVerdict, v0, v15, gross, net, sixFigures, ownAnswer, aloneAnswer}
 use Rattle.train.specs.Work.{earlyTests, lateTests, figuresFrom}
-use Rattle.train.proofs.Verdict.{all-accept, proper-each, refuses-first}
 
 -- Where the code hands on 0 for a part of the tests, none of them applies.
 
@@ -55,7 +54,7 @@ module _ (ts : List Table) (c : Car) where
   by-verdict e = sym (ap (λ (w : Verdict). answer w (sixFigures ts c)) e)
 
   pub own-early : {k : ℕ} → k ≡ numberOf (first (earlyTests ts c)) → (k ≡ 0 → ⊥) → refusal k ≡ ownAnswer ts c
-  own-early e n = by-verdict (ap first in-parts ∙ refused-first (earlyTests ts c) (levelTests ++ lateTests c) e n)
+  own-early e n = by-verdict (ap first in-parts ∙ refused-append (earlyTests ts c) (levelTests ++ lateTests c) e n)
 
   -- where 12 to 15 do not apply
   module _ (passed : first (earlyTests ts c) ≡ accepts) where
@@ -66,7 +65,7 @@ module _ (ts : List Table) (c : Car) where
     grade-known = neither _ (stickBad (c .stick)) (accepted-if 13 _ (all-accept (earlyTests ts c) passed .1 .0)) .0
 
     from-level : first (carTests ts c) ≡ first (levelTests ++ lateTests c)
-    from-level = ap first in-parts ∙ accepted-first (earlyTests ts c) (levelTests ++ lateTests c) passed
+    from-level = ap first in-parts ∙ accepted-append (earlyTests ts c) (levelTests ++ lateTests c) passed
 
     -- the volume's tests are 16 and 17
     from-volume : first (volumeTests ts (c .kind) (level c) (c .«water_level»)) ≡ first levelTests
@@ -79,14 +78,14 @@ module _ (ts : List Table) (c : Car) where
       pub own-level : {n : ℕ} → r ≡ Refused n → refusal n ≡ ownAnswer ts c
       own-level h =
           let v = volume-refused ts (c .kind) (level c) (c .«water_level») at-level h in
-          by-verdict (from-level ∙ refuses-first levelTests (lateTests c) (sym from-volume ∙ v))
+          by-verdict (from-level ∙ refuses-append levelTests (lateTests c) (sym from-volume ∙ v))
 
       pub own-late : {v : ℕ} → r ≡ Hundredths v → answer (first (lateTests c)) (figuresFrom c m v) ≡ ownAnswer ts c
       unfolding volumeOn v0 v15 gross net
       own-late {v} h =
           let p = answer-figures (first (volumeTests ts (c .kind) (level c) (c .«water_level»))) (sym (ap told h) ∙ at-level) in
           let shown : v ≡ v0 ts c = let q = p .1 in cc in
-          rw (mean, shown) (by-verdict (from-level ∙ accepted-first levelTests (lateTests c) (sym from-volume ∙ p .0)))
+          rw (mean, shown) (by-verdict (from-level ∙ accepted-append levelTests (lateTests c) (sym from-volume ∙ p .0)))
 
 -- A car alone: its tables, its number, then its own tests.
 
@@ -99,7 +98,7 @@ module _ (ts : List Table) (c : Car) where
   unfolding aloneVerdict
   alone-tables e n =
       alone-verdict
-      (refused-first (tablesVerdict ts ∷ []) (refuseIf 10 (numberBad (c .number)) ∷ carTests ts c) (e ∙ sym (ap numberOf (first-one (tablesVerdict ts)))) n)
+      (refused-append (tablesVerdict ts ∷ []) (refuseIf 10 (numberBad (c .number)) ∷ carTests ts c) (e ∙ sym (ap numberOf (first-one (tablesVerdict ts)))) n)
 
   module _ (good : tablesVerdict ts ≡ accepts) where
     pub alone-number : numberBad (c .number) ≡ true → refusal 10 ≡ aloneAnswer ts c

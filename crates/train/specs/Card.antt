@@ -3,13 +3,13 @@ use Prim.Native.Nat.{ℕ}
 use mathlib.Core.Path.{_≡_}
 use mathlib.Core.List.{List, [], _∷_}
 use Rattle.base.specs.Answer.{Answer, figures, refusal}
+use Rattle.base.specs.Lists.{Each}
 use Rattle.level.specs.Level.{meanLevelAnswer}
 use Rattle.level.specs.Tape.{allowanceAnswer}
 use Rattle.table.specs.Table.{Table}
 use Rattle.table.specs.Capacity.{capacityAnswer, volumeAnswer}
 use Rattle.mass.specs.Steps.{wall, hotVolume, exponent}
 use Rattle.mass.specs.Answers.{expansionAnswer, factorAnswer, density20Answer}
-use Rattle.mass.specs.Total.{Each}
 use Rattle.train.specs.declared.Car.{Car}
 use Rattle.train.specs.Car.{aloneAnswer}
 

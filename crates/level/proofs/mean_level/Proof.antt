@@ -7,9 +7,9 @@ use lib.Dec.{eqb}
 use borrow.Author.Needs.{needs}
 use borrow.Author.Tests.{eq-eqb, ne-eqb}
 use Rattle.base.specs.Answer.{refuseIf, first, numberOf, answer, figures}
+use Rattle.base.proofs.Answer.{refused-append, accepted-append}
 use Rattle.level.specs.Level.{meanLevel, readingsTests, meanLevelAnswer}
-use Rattle.base.proofs.Answer.{refused-first, accepted-first}
-use Rattle.level.proofs.Readings.{readings-numbered}
+use Rattle.level.proofs.Readings.{readings-proper}
 use Rattle.level.proofs.mean_level.Statement.{statement}
 use Rattle.level.proofs.mean_level.Tie as tie
 
@@ -17,7 +17,7 @@ use Rattle.level.proofs.mean_level.Tie as tie
 by-mean : (n : ℕ) (x : List ℕ) → 0 ≡ numberOf (first (readingsTests n x)) → {t : Bool} → eqb (meanLevel x) 0 ≡ t
     → answer (first (refuseIf 16 t ∷ [])) (meanLevel x ∷ []) ≡ meanLevelAnswer n x
 unfolding meanLevelAnswer
-by-mean n x e f = sym (rw (accepted-first (readingsTests n x) (refuseIf 16 (eqb (meanLevel x) 0) ∷ []) (readings-numbered n x (sym e)), f))
+by-mean n x e f = sym (rw (accepted-append (readingsTests n x) (refuseIf 16 (eqb (meanLevel x) 0) ∷ []) (readings-proper n x (sym e)), f))
 
 readings-refusal-requires : tie.Need-readings-refusal-requires
 readings-refusal-requires c κs = search needs
@@ -27,7 +27,7 @@ unfolding meanLevelAnswer
 returns c =
     let n = c .before .before .args .n in
     let x = c .before .before .args .readings in
-    sym (rw (refused-first (readingsTests n x) (refuseIf 16 (eqb (meanLevel x) 0) ∷ []) (c .before .readings-refusal .ensures) (c .if1 .taken)))
+    sym (rw (refused-append (readingsTests n x) (refuseIf 16 (eqb (meanLevel x) 0) ∷ []) (c .before .readings-refusal .ensures) (c .if1 .taken)))
 
 mean-of-requires : tie.Need-mean-of-requires
 mean-of-requires c κs = search needs

@@ -3,8 +3,8 @@ use borrow.Author.Needs.{needs}
 use mathlib.Core.Path.{_≡_}
 use mathlib.Core.Bool.{false}
 use native.Mathlib.Omega.{arith}
+use Rattle.base.proofs.Answer.{applies, passes}
 use Rattle.mass.specs.Grades.{densityBad}
-use Rattle.mass.proofs.Verdict.{applies, passes}
 use Rattle.mass.proofs.Limits.{density-in-range}
 use Rattle.mass.proofs.expansion_of.Statement.{statement}
 use Rattle.mass.proofs.expansion_of.Tie as tie

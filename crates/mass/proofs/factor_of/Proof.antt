@@ -4,8 +4,8 @@ use Prim.Native.Nat.{_≤_}
 use mathlib.Core.Path.{_≡_}
 use mathlib.Core.Bool.{false}
 use native.Mathlib.Omega.{arith}
+use Rattle.base.proofs.Answer.{applies, passes}
 use Rattle.mass.specs.Grades.{temperatureBadAnyGrade, densityBad}
-use Rattle.mass.proofs.Verdict.{applies, passes}
 use Rattle.mass.proofs.Limits.{temperature-any-in-range, density-in-range}
 use Rattle.mass.proofs.factor_of.Statement.{statement}
 use Rattle.mass.proofs.factor_of.Tie as tie

@@ -4,8 +4,8 @@ use Prim.Native.Nat.{_+_, _≤_}
 use mathlib.Core.Path.{_≡_}
 use mathlib.Core.Bool.{false}
 use native.Mathlib.Omega.{arith}
+use Rattle.base.proofs.Answer.{applies, passes}
 use Rattle.mass.specs.Grades.{contentBadAnyGrade}
-use Rattle.mass.proofs.Verdict.{applies, passes}
 use Rattle.mass.proofs.Limits.{content-any-in-range}
 use Rattle.mass.proofs.oil_share_any_grade.Statement.{statement}
 use Rattle.mass.proofs.oil_share_any_grade.Tie as tie

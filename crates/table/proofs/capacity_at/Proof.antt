@@ -10,11 +10,11 @@ use lib.ListN.{length, getD}
 use borrow.Author.Needs.{needs}
 use denote.Ref.{now}
 use Rattle.base.specs.Answer.{accepts, figures}
+use Rattle.base.proofs.Answer.{accepted-pass}
 use Rattle.table.specs.Table.{Row, Table, laterBad, laterVerdict, rowsVerdict}
 use Rattle.table.specs.Capacity.{linear, capacityAnswer}
 use Rattle.table.specs.Held.{rowsFrom, tableAt, tablesFrom, tablesOf, told}
 use Rattle.table.specs.declared.Volume.the-variants.{Refused}
-use Rattle.table.proofs.Verdict.{accepted-pass}
 use Rattle.table.proofs.Held.{one-left, none-left, rowAt, rows-first, rows-none, tables-step, tables-none, GoodTable, good-table}
 use Rattle.table.proofs.Rising.{First, first-row, rising-from}
 use Rattle.table.proofs.Search.{foundAfter, none-reaches, row-passed, row-reaches, table-chosen, table-skipped}

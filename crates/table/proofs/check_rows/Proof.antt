@@ -6,10 +6,10 @@ use native.Mathlib.Omega.{arith}
 use borrow.Author.Needs.{needs}
 use denote.Ref.{now}
 use Rattle.base.proofs.Tests.{tests}
+use Rattle.base.proofs.Answer.{pass}
 use Rattle.base.specs.Answer.{numberOf}
 use Rattle.table.specs.Table.{firstBad, laterBad, laterVerdict, rowsVerdict}
 use Rattle.table.specs.Held.{rowsFrom}
-use Rattle.table.proofs.Verdict.{pass}
 use Rattle.table.proofs.Held.{one-left, none-left, rowAt, rows-first, rows-none}
 use Rattle.table.proofs.check_rows.Statement.{statement}
 use Rattle.table.proofs.check_rows.Tie as tie

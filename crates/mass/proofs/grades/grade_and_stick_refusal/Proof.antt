@@ -1,8 +1,8 @@
 -- `mass::grades::grade_and_stick_refusal` meets its contract: 13 where the test of the grade applies, else by that of the stick.
 use borrow.Author.Needs.{needs}
 use native.Mathlib.Omega.{arith}
+use Rattle.base.proofs.Answer.{applies, passes}
 use Rattle.mass.specs.Grades.{gradeBad}
-use Rattle.mass.proofs.Verdict.{applies, passes}
 use Rattle.mass.proofs.grades.grade_and_stick_refusal.Statement.{statement}
 use Rattle.mass.proofs.grades.grade_and_stick_refusal.Tie as tie
 

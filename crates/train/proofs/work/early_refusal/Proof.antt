@@ -6,10 +6,10 @@ use mathlib.Core.List.{List}
 use native.Mathlib.Omega.{arith}
 use borrow.Author.Needs.{needs}
 use borrow.Author.Tests.{not-true, not-false}
+use Rattle.base.proofs.Answer.{applies, passes}
 use Rattle.table.specs.Capacity.{unknown}
 use Rattle.table.specs.Held.{tablesOf, Good}
 use Rattle.mass.specs.Grades.{gradeBad, stickBad}
-use Rattle.mass.proofs.Verdict.{applies, passes}
 use Rattle.train.proofs.work.early_refusal.Statement.{statement}
 use Rattle.train.proofs.work.early_refusal.Tie as tie
 

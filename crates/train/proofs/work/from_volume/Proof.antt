@@ -3,9 +3,8 @@ use mathlib.Core.Path.{_≡_, sym, ap}
 use mathlib.Core.List.{[]}
 use borrow.Author.Needs.{needs}
 use Rattle.base.specs.Answer.{Verdict, accepts, first, answer}
-use Rattle.base.proofs.Answer.{refused-first}
+use Rattle.base.proofs.Answer.{refused-append, all-accept}
 use Rattle.train.specs.Work.{lateTests, figuresFrom}
-use Rattle.train.proofs.Verdict.{all-accept}
 use Rattle.train.proofs.Accepted.{fields, fields-in-range}
 use Rattle.train.proofs.Tests.{late-passed}
 use Rattle.train.proofs.work.from_volume.Statement.{statement}
@@ -20,7 +19,7 @@ late-refusal-requires c κs = search needs
 returns : tie.Need-returns
 returns c =
     let a = c .before .before .args in
-    sym (ap (λ (v : Verdict). answer v (figuresFrom (a .car) (a .level) (a .v0))) (refused-first (lateTests (a .car)) [] (c .before .late-refusal .ensures) (c .if1 .taken)))
+    sym (ap (λ (v : Verdict). answer v (figuresFrom (a .car) (a .level) (a .v0))) (refused-append (lateTests (a .car)) [] (c .before .late-refusal .ensures) (c .if1 .taken)))
 
 masses-of-requires : tie.Need-masses-of-requires
 masses-of-requires c κs =

@@ -4,9 +4,8 @@ use mathlib.Core.Bool.{false}
 use native.Mathlib.Omega.{arith}
 use borrow.Author.Needs.{needs}
 use Rattle.base.specs.Answer.{refuseIf, numberOf}
-use Rattle.table.proofs.Verdict.{first-one}
+use Rattle.base.proofs.Answer.{first-one, applies, passes}
 use Rattle.mass.specs.Grades.{temperatureBad, densityBad, contentBad, density20Bad}
-use Rattle.mass.proofs.Verdict.{applies, passes}
 use Rattle.mass.proofs.Limits.{density-in-range}
 use Rattle.train.proofs.work.late_refusal.Statement.{statement}
 use Rattle.train.proofs.work.late_refusal.Tie as tie
