@@ -1,0 +1,33 @@
+//! Writes the conformance sheets and their listings: `make_conformance FOLDER`.
+
+use std::fs;
+use std::path::Path;
+use std::process::ExitCode;
+
+use reference::conformance;
+use reference::listing;
+
+fn main() -> ExitCode {
+    let arguments: Vec<String> = std::env::args().skip(1).collect();
+    let [folder] = arguments.as_slice() else {
+        eprintln!("usage: make_conformance FOLDER");
+        return ExitCode::from(2);
+    };
+    match write_cases(Path::new(folder)) {
+        Ok(()) => ExitCode::SUCCESS,
+        Err(error) => {
+            eprintln!("{folder}: {error}");
+            ExitCode::FAILURE
+        }
+    }
+}
+
+fn write_cases(folder: &Path) -> std::io::Result<()> {
+    fs::create_dir_all(folder)?;
+    for case in conformance::cases() {
+        let listing = listing::of(&case.sheet);
+        fs::write(folder.join(format!("{}.sheet", case.name)), &case.sheet)?;
+        fs::write(folder.join(format!("{}.listing", case.name)), listing)?;
+    }
+    Ok(())
+}

@@ -1,0 +1,172 @@
+//! One car: its fields, the refusals 10 and 12 to 21, and its six figures.
+
+use std::ops::RangeInclusive;
+
+use crate::level;
+use crate::mass;
+use crate::refusal::Refusal;
+use crate::table::Tables;
+use crate::thermal::{self, Density15, Density20, Stick};
+
+/// Fields of a car's line.
+pub const FIELDS: usize = 14;
+
+const NUMBERS: RangeInclusive<u32> = 1..=99_999_999;
+const DENSITIES: RangeInclusive<u32> = 9_000..=9_900;
+
+/// What a grade of fuel oil is held to.
+struct Grade {
+    /// Oil temperatures, in 0.1 °C.
+    temperatures: RangeInclusive<u32>,
+    /// Highest water and impurities, in 0.01 %.
+    water: u32,
+    impurities: u32,
+    /// Highest density at 20 °C.
+    density: Option<Density20>,
+}
+
+/// Ф5, Ф12, 40 and 100.
+const GRADES: [Grade; 4] = [
+    Grade { temperatures: 200..=900, water: 30, impurities: 10, density: Some(Density20(9_550)) },
+    Grade { temperatures: 200..=900, water: 30, impurities: 12, density: Some(Density20(9_600)) },
+    Grade { temperatures: 400..=900, water: 100, impurities: 50, density: None },
+    Grade { temperatures: 400..=900, water: 100, impurities: 100, density: None },
+];
+
+/// A car as the sheet gives it.
+#[derive(Clone, Copy, Debug, Default, PartialEq, Eq)]
+pub struct Car {
+    pub number: u32,
+    pub car_type: u32,
+    pub grade: u32,
+    pub stick: u32,
+    /// How many readings are given.
+    pub given: u32,
+    /// Readings of the level, in mm.
+    pub readings: [u32; 4],
+    /// Water level, in mm.
+    pub water_level: u32,
+    /// Oil temperature, in 0.1 °C.
+    pub temperature: u32,
+    /// Density at 15 °C, in 0.1 kg/m³.
+    pub density: u32,
+    /// Water and impurities, in 0.01 %.
+    pub water: u32,
+    pub impurities: u32,
+}
+
+impl From<[u32; FIELDS]> for Car {
+    fn from(fields: [u32; FIELDS]) -> Self {
+        let [number, car_type, grade, stick, given, rest @ ..] = fields;
+        let [a, b, c, d, water_level, temperature, density, water, impurities] = rest;
+        Self {
+            number,
+            car_type,
+            grade,
+            stick,
+            given,
+            readings: [a, b, c, d],
+            water_level,
+            temperature,
+            density,
+            water,
+            impurities,
+        }
+    }
+}
+
+impl From<Car> for [u32; FIELDS] {
+    fn from(car: Car) -> Self {
+        let [a, b, c, d] = car.readings;
+        [
+            car.number,
+            car.car_type,
+            car.grade,
+            car.stick,
+            car.given,
+            a,
+            b,
+            c,
+            d,
+            car.water_level,
+            car.temperature,
+            car.density,
+            car.water,
+            car.impurities,
+        ]
+    }
+}
+
+/// The six figures of an accepted car.
+#[derive(Clone, Copy, Debug, PartialEq, Eq)]
+pub struct Figures {
+    pub number: u32,
+    /// Mean level, in mm.
+    pub level: u32,
+    /// V0 and V15, in 0.01 dm³.
+    pub volume: u32,
+    pub volume_at_15: u32,
+    /// Masses, in kg.
+    pub gross: u32,
+    pub net: u32,
+}
+
+impl Car {
+    /// The car worked out alone: refusals 10 and 12 to 21, then its figures.
+    pub fn work_out(&self, tables: &Tables) -> Result<Figures, Refusal> {
+        self.check_number()?;
+        self.figures(tables)
+    }
+
+    /// Refusal 10.
+    pub fn check_number(&self) -> Result<(), Refusal> {
+        ensure(NUMBERS.contains(&self.number), Refusal::CarNumber)
+    }
+
+    /// Refusals 12 to 21, then the figures.
+    pub fn figures(&self, tables: &Tables) -> Result<Figures, Refusal> {
+        let table = tables.find(self.car_type).ok_or(Refusal::Type)?;
+        let grade = self.grade().ok_or(Refusal::GradeOrStick)?;
+        let stick = Stick::numbered(self.stick).ok_or(Refusal::GradeOrStick)?;
+        let level = level::mean(self.given, self.readings)?;
+        ensure(level <= table.last_level(), Refusal::Level)?;
+        ensure(self.water_level < level, Refusal::WaterLevel)?;
+        ensure(grade.temperatures.contains(&self.temperature), Refusal::Temperature)?;
+        ensure(DENSITIES.contains(&self.density), Refusal::Density15)?;
+        ensure(
+            self.water <= grade.water && self.impurities <= grade.impurities,
+            Refusal::WaterOrImpurities,
+        )?;
+        let density = Density15(self.density);
+        if let Some(highest) = grade.density {
+            ensure(thermal::density_at_20(density) <= highest, Refusal::Density20)?;
+        }
+
+        let volume = table.capacity(level) - table.capacity(self.water_level);
+        let measured = thermal::volume_at_temperature(volume, stick, self.temperature);
+        let volume_at_15 = mass::volume_at_15(measured, density, self.temperature);
+        let gross = mass::gross(volume_at_15, density);
+        let net = mass::net(gross, self.water, self.impurities);
+        Ok(Figures {
+            number: self.number,
+            level,
+            volume: volume as u32,
+            volume_at_15: volume_at_15 as u32,
+            gross: gross as u32,
+            net: net as u32,
+        })
+    }
+
+    fn grade(&self) -> Option<&'static Grade> {
+        let place = self.grade.checked_sub(1)?;
+        GRADES.get(place as usize)
+    }
+}
+
+fn ensure(condition: bool, otherwise: Refusal) -> Result<(), Refusal> {
+    if condition {
+        Ok(())
+    } else {
+        Err(otherwise)
+    }
+}

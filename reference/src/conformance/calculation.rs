@@ -1,0 +1,95 @@
+//! Where two suppliers would part: sheets on which a wrong way prints something else.
+
+use super::rack::{cars_on, numbered, CAR};
+use super::Case;
+use crate::car::Car;
+
+pub fn cases() -> Vec<Case> {
+    let thirds = "T 1 2\nR 0 0\nR 3000 20000";
+    let at = |level| Car { readings: [level, level, 0, 0], ..CAR };
+    vec![
+        numbered(
+            "parting-net-from-unrounded-gross",
+            &[
+                Car { water: 100, impurities: 50, ..CAR },
+                Car { readings: [1200, 1200, 0, 0], ..CAR },
+                Car { readings: [1250, 1250, 0, 0], ..CAR },
+            ],
+            "A 1 1500 3500000 3392515 32229 31746
+             A 2 1200 2600000 2520154 23941 23773
+             A 3 1250 2750000 2665547 25323 25146
+             S 3 81493 80665",
+        ),
+        Case::new(
+            "parting-capacities-rounded-once",
+            cars_on(
+                thirds,
+                &[
+                    Car { number: 1, water_level: 2, ..at(1501) },
+                    Car { number: 2, water_level: 1, ..at(1502) },
+                ],
+            ),
+            "A 1 1501 999334 968645 9202 9138
+             A 2 1502 1000666 969935 9214 9150
+             S 2 18416 18288",
+        ),
+        numbered(
+            "parting-expansion-of-oil-from-20",
+            &[CAR, Car { temperature: 900, ..CAR }],
+            "A 1 1500 3500000 3392515 32229 32003
+             A 2 1500 3500000 3320152 31541 31320
+             S 2 63770 63323",
+        ),
+        numbered(
+            "parting-expansion-of-wall-from-15",
+            &[Car { grade: 1, temperature: 200, water: 0, impurities: 0, ..CAR }],
+            "A 1 1500 3500000 3487405 33130 33130
+             S 1 33130 33130",
+        ),
+        numbered(
+            "parting-average-of-all-four-readings",
+            &[
+                Car { given: 4, readings: [1500, 1504, 1501, 1502], ..CAR },
+                Car { given: 4, readings: [1500, 1500, 1504, 1504], ..CAR },
+            ],
+            "A 1 1501 3503000 3395423 32257 32031
+             A 2 1500 3500000 3392515 32229 32003
+             S 2 64486 64034",
+        ),
+        numbered(
+            "parting-square-left-out",
+            &[CAR, Car { temperature: 900, density: 9000, ..CAR }],
+            "A 1 1500 3500000 3392515 32229 32003
+             A 2 1500 3500000 3306052 29754 29546
+             S 2 61983 61549",
+        ),
+        numbered(
+            "parting-three-closest-though-first-two-agree",
+            &[Car { given: 4, readings: [1500, 1501, 1503, 1503], ..CAR }],
+            "A 1 1501 3503000 3395423 32257 32031
+             S 1 32257 32031",
+        ),
+        numbered(
+            "parting-upper-triple-of-a-tie",
+            &[Car { given: 4, readings: [1500, 1503, 1501, 1502], ..CAR }],
+            "A 1 1501 3503000 3395423 32257 32031
+             S 1 32257 32031",
+        ),
+        numbered(
+            "parting-sticks-mixed-up",
+            &[CAR, Car { stick: 2, ..CAR }],
+            "A 1 1500 3500000 3392515 32229 32003
+             A 2 1500 3500000 3393937 32242 32016
+             S 2 64471 64019",
+        ),
+        numbered(
+            "parting-net-total-from-gross-total",
+            &[CAR; 4],
+            "A 1 1500 3500000 3392515 32229 32003
+             A 2 1500 3500000 3392515 32229 32003
+             A 3 1500 3500000 3392515 32229 32003
+             A 4 1500 3500000 3392515 32229 32003
+             S 4 128916 128012",
+        ),
+    ]
+}

@@ -1,0 +1,50 @@
+//! Small sheets that each try one point of the rules, with the listing each must give.
+//!
+//! The listings stand here as constants, worked out by a separate calculation; the tests compare
+//! them with what this package answers.
+
+mod calculation;
+mod cars;
+mod ends;
+mod levels;
+mod lines;
+mod order;
+mod rack;
+mod roundings;
+mod sizes;
+mod sources;
+mod tables;
+mod text;
+
+/// A sheet, the listing it must give, and a name that says what it tries.
+pub struct Case {
+    pub name: &'static str,
+    pub sheet: Vec<u8>,
+    pub listing: Vec<u8>,
+}
+
+impl Case {
+    fn new(name: &'static str, sheet: Vec<u8>, listing: &str) -> Self {
+        Self { name, sheet, listing: text::columns(listing) }
+    }
+}
+
+/// All cases.
+pub fn cases() -> Vec<Case> {
+    [
+        rack::cases(),
+        sizes::cases(),
+        lines::cases(),
+        tables::cases(),
+        ends::cases(),
+        cars::cases(),
+        levels::cases(),
+        roundings::cases(),
+        calculation::cases(),
+        order::cases(),
+        sources::cases(),
+    ]
+    .into_iter()
+    .flatten()
+    .collect()
+}

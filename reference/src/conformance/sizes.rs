@@ -1,0 +1,107 @@
+//! Sheets of all sizes: none, few and sixty cars, one to five tables, the longest sheet and longer.
+
+use super::rack::{self, cars_on, CAR, TABLE};
+use super::text::columns;
+use super::Case;
+use crate::car::Car;
+
+const FOUR_TABLES: &str = "
+    T 4 2
+    R 0 0
+    R 3000 60000
+    T 9999 3
+    R 0 0
+    R 1000 10000
+    R 3600 200000
+    T 1 2
+    R 0 0
+    R 1 1
+    T 62 2
+    R 0 0
+    R 2810 70865";
+
+pub fn cases() -> Vec<Case> {
+    let sixty = sixty_cars(1);
+    let mut sixty_one = sixty.clone();
+    sixty_one.push(Car { number: 61, ..CAR });
+
+    let tables = format!("{TABLE}\n{FOUR_TABLES}").replace("T 1 2", "T 5 2");
+    let full = cars_on(&full_tables(), &sixty_cars(4));
+    let one_byte_more = [full.as_slice(), b"\n"].concat();
+
+    vec![
+        Case::new("accepted-no-cars", cars_on(TABLE, &[]), "S 0 0 0"),
+        Case::new("accepted-one-car", rack::sheet(), rack::LISTING),
+        Case::new("accepted-smallest-table", columns("T 1 2\nR 0 0\nR 1 1\nE 0"), "S 0 0 0"),
+        Case::new(
+            "accepted-four-tables-in-any-order",
+            cars_on(
+                FOUR_TABLES,
+                &[
+                    Car { number: 1, car_type: 1, readings: [1, 1, 0, 0], ..CAR },
+                    Car { number: 2, car_type: 4, ..CAR },
+                    Car { number: 3, car_type: 62, ..CAR },
+                    Car { number: 4, car_type: 9999, ..CAR },
+                    Car { number: 5, car_type: 2, ..CAR },
+                ],
+            ),
+            "A 1 1 100 97 1 1
+             A 2 1500 3000000 2907870 27625 27432
+             A 3 1500 3782829 3666658 34833 34589
+             A 4 1500 4653846 4510926 42854 42554
+             X 5 12
+             S 4 105313 104576",
+        ),
+        Case::new(
+            "accepted-last-car-uses-first-table",
+            cars_on(
+                &format!("{TABLE}\nT 2 2\nR 0 0\nR 3000 60000"),
+                &[Car { car_type: 2, number: 1, ..CAR }, Car { number: 2, ..CAR }],
+            ),
+            "A 1 1500 3000000 2907870 27625 27432
+             A 2 1500 3500000 3392515 32229 32003
+             S 2 59854 59435",
+        ),
+        Case::new(
+            "accepted-same-tables-in-another-order",
+            cars_on(
+                &format!("T 2 2\nR 0 0\nR 3000 60000\n{TABLE}"),
+                &[Car { car_type: 2, number: 1, ..CAR }, Car { number: 2, ..CAR }],
+            ),
+            "A 1 1500 3000000 2907870 27625 27432
+             A 2 1500 3500000 3392515 32229 32003
+             S 2 59854 59435",
+        ),
+        Case::new("refusal-07-fifth-table", cars_on(&tables, &[CAR]), "Z 16 7"),
+        Case::new(
+            "accepted-sixty-cars",
+            cars_on(TABLE, &sixty),
+            &sixty_lines("1500 3500000 3392515 32229 32003", "1933740 1920180"),
+        ),
+        Case::new("refusal-09-sixty-first-car", cars_on(TABLE, &sixty_one), "Z 66 9"),
+        Case::new(
+            "accepted-longest-sheet-39771-bytes",
+            full,
+            &sixty_lines("1500 8333333 8077416 76735 76198", "4604100 4571880"),
+        ),
+        Case::new("refusal-02-sheet-of-39772-bytes", one_byte_more, "Z 0 2"),
+    ]
+}
+
+/// Sixty cars alike but for their numbers, spread over so many types.
+fn sixty_cars(types: u32) -> Vec<Car> {
+    (1..=60).map(|number| Car { number, car_type: 1 + number % types, ..CAR }).collect()
+}
+
+/// The listing of sixty cars alike.
+fn sixty_lines(figures: &str, totals: &str) -> String {
+    let mut listing: String = (1..=60).map(|number| format!("A {number} {figures}\n")).collect();
+    listing.push_str(&format!("S 60 {totals}"));
+    listing
+}
+
+/// Four tables of 400 rows, 500 dm³ to every 9 mm.
+fn full_tables() -> String {
+    let rows: String = (0..400).map(|row| format!("R {} {}\n", 9 * row, 500 * row)).collect();
+    (1..=4).map(|car_type| format!("T {car_type} 400\n{rows}")).collect()
+}

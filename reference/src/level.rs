@@ -1,0 +1,55 @@
+//! Levels: the mean of the readings (step 1) and the tape allowance.
+
+use crate::refusal::Refusal;
+use crate::rounding::nearest;
+
+/// Two readings of one level may differ by this many mm.
+const AGREEMENT: u32 = 1;
+
+/// No level passes this many mm.
+pub const HIGHEST: u32 = 3_600;
+
+/// Permitted deviation of the tape, in 0.01 mm, for 1, 2, 3 and 4 whole and part metres.
+const ALLOWANCES: [u32; 4] = [30, 45, 60, 75];
+
+/// The mean level in mm, from two or four readings; the places of readings not given hold 0.
+pub fn mean(given: u32, readings: [u32; 4]) -> Result<u32, Refusal> {
+    let [first, second, third, fourth] = readings;
+    let agree = first.abs_diff(second) <= AGREEMENT;
+    let mean = match given {
+        2 if (third, fourth) != (0, 0) => return Err(Refusal::ReadingCount),
+        2 if !agree => return Err(Refusal::ReadingsApart),
+        2 | 4 if agree => mean_of(&[first, second]),
+        4 => mean_of(&three_closest(readings)),
+        _ => return Err(Refusal::ReadingCount),
+    };
+    if mean == 0 {
+        return Err(Refusal::Level);
+    }
+    Ok(mean)
+}
+
+/// The three closest of four readings, the lower three of two triples that are equally close.
+fn three_closest(mut readings: [u32; 4]) -> [u32; 3] {
+    readings.sort_unstable();
+    let [a, b, c, d] = readings;
+    if c - a <= d - b {
+        [a, b, c]
+    } else {
+        [b, c, d]
+    }
+}
+
+fn mean_of(readings: &[u32]) -> u32 {
+    let sum = readings.iter().copied().map(u64::from).sum();
+    nearest(sum, readings.len() as u64) as u32
+}
+
+/// The tape allowance at a level, in 0.01 mm.
+pub fn tape_allowance(level: u32) -> Result<u32, Refusal> {
+    if !(1..=HIGHEST).contains(&level) {
+        return Err(Refusal::Level);
+    }
+    let metres = level.div_ceil(1_000);
+    Ok(ALLOWANCES[metres as usize - 1])
+}

@@ -1,0 +1,24 @@
+//! The rules of the fuel oil sheet: from the bytes of a sheet to the bytes of its listing.
+//!
+//! [`answer_sheet`] is the whole of it. The modules below it hold one idea each and follow the
+//! order of the rules; [`sheets`] and [`conformance`] make sheets to try programs
+//! on.
+
+pub mod car;
+pub mod conformance;
+pub mod field;
+pub mod level;
+pub mod line;
+pub mod listing;
+pub mod mass;
+pub mod refusal;
+pub mod rounding;
+pub mod sheet;
+pub mod sheets;
+pub mod table;
+pub mod thermal;
+pub mod train;
+
+pub use listing::{answer_sheet, ANSWER_BYTES};
+pub use refusal::Refusal;
+pub use sheet::SHEET_BYTES;

@@ -1,0 +1,56 @@
+//! Why a sheet or a car is turned away, with the numbers that the listing shows.
+
+/// A refusal, numbered as on the rack card.
+#[derive(Clone, Copy, Debug, PartialEq, Eq)]
+#[repr(u32)]
+pub enum Refusal {
+    /// The answer buffer is too short for every listing.
+    AnswerBuffer = 1,
+    /// The sheet is too long.
+    SheetLength = 2,
+    /// A line is due, but the sheet has ended or no line feed follows.
+    LineMissing = 3,
+    /// The first byte of a line is not a letter that may come next.
+    Letter = 4,
+    /// The length of a line is not its letter's.
+    LineLength = 5,
+    /// A field is not a number.
+    Field = 6,
+    /// The head of a table is out of range, repeats a type or is the fifth.
+    TableHead = 7,
+    /// A row of a table does not start it with zeros, does not rise or passes a limit.
+    TableRow = 8,
+    /// Too many cars, a wrong count of cars, or bytes after the last line.
+    Count = 9,
+    /// The car number is out of range.
+    CarNumber = 10,
+    /// The car number stands on an earlier line.
+    CarTwice = 11,
+    /// No table has the car's type.
+    Type = 12,
+    /// There is no such grade or no such stick.
+    GradeOrStick = 13,
+    /// The number of readings is neither two nor four, or an unused reading is not 0.
+    ReadingCount = 14,
+    /// Two readings lie more than 1 mm apart.
+    ReadingsApart = 15,
+    /// The level is 0 or above what can be measured.
+    Level = 16,
+    /// The water level is not below the mean level.
+    WaterLevel = 17,
+    /// The oil temperature is outside the grade's range.
+    Temperature = 18,
+    /// The density at 15 °C is outside the densimeter's range.
+    Density15 = 19,
+    /// Water or impurities exceed the grade's limit.
+    WaterOrImpurities = 20,
+    /// The density at 20 °C exceeds the grade's limit.
+    Density20 = 21,
+}
+
+impl Refusal {
+    /// The number that the listing shows.
+    pub const fn number(self) -> u32 {
+        self as u32
+    }
+}

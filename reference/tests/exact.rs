@@ -1,0 +1,208 @@
+//! Gross and net masses against the exact value, in whole numbers of any length.
+
+use reference::car::{Car, Figures, FIELDS};
+use reference::sheet::Sheet;
+use reference::sheets;
+
+/// A whole number of any length, its lowest 32 bits first.
+#[derive(Clone, Debug, PartialEq, Eq)]
+struct Big(Vec<u32>);
+
+impl Big {
+    fn from(number: u64) -> Self {
+        Self(vec![number as u32, (number >> 32) as u32]).trim()
+    }
+
+    fn trim(mut self) -> Self {
+        while self.0.last() == Some(&0) {
+            self.0.pop();
+        }
+        self
+    }
+
+    fn times(&self, other: &Self) -> Self {
+        let mut product = vec![0; self.0.len() + other.0.len()];
+        for (i, &a) in self.0.iter().enumerate() {
+            let mut carry = 0;
+            for (j, &b) in other.0.iter().enumerate() {
+                let sum = u64::from(a) * u64::from(b) + u64::from(product[i + j]) + carry;
+                product[i + j] = sum as u32;
+                carry = sum >> 32;
+            }
+            product[i + other.0.len()] = carry as u32;
+        }
+        Self(product).trim()
+    }
+
+    fn by(&self, number: u64) -> Self {
+        self.times(&Self::from(number))
+    }
+
+    fn plus(&self, other: &Self) -> Self {
+        let mut sum = Vec::new();
+        let mut carry = 0;
+        for place in 0..self.0.len().max(other.0.len()) + 1 {
+            let digit = |number: &Self| u64::from(number.0.get(place).copied().unwrap_or(0));
+            let total = digit(self) + digit(other) + carry;
+            sum.push(total as u32);
+            carry = total >> 32;
+        }
+        Self(sum).trim()
+    }
+
+    fn at_most(&self, other: &Self) -> bool {
+        let key = |number: &Self| (number.0.len(), number.0.iter().rev().copied().collect());
+        let (ours, theirs): ((usize, Vec<u32>), (usize, Vec<u32>)) = (key(self), key(other));
+        ours <= theirs
+    }
+}
+
+/// A fraction `(plus - minus) / divisor` that is not negative.
+struct Exact {
+    plus: Big,
+    minus: Big,
+    divisor: Big,
+}
+
+impl Exact {
+    fn by(&self, dividend: u64, divisor: u64) -> Self {
+        Self {
+            plus: self.plus.by(dividend),
+            minus: self.minus.by(dividend),
+            divisor: self.divisor.by(divisor),
+        }
+    }
+
+    /// Whether the distance to a whole number is at most so many hundredths.
+    fn is_near(&self, number: u64, hundredths: u64) -> bool {
+        let exact = |part: &Big| part.by(100);
+        let low = self.divisor.by((100 * number).saturating_sub(hundredths));
+        let high = self.divisor.by(100 * number + hundredths);
+        low.plus(&exact(&self.minus)).at_most(&exact(&self.plus))
+            && exact(&self.plus).at_most(&high.plus(&exact(&self.minus)))
+    }
+}
+
+/// The series of the exponential of `-dividend / divisor` up to a power.
+fn exponential(dividend: &Big, divisor: &Big, powers: u64) -> Exact {
+    let one = || Big::from(1);
+    let mut sum = Exact { plus: one(), minus: Big::from(0), divisor: one() };
+    let mut term = one();
+    for power in 1..=powers {
+        let step = divisor.by(power);
+        term = term.times(dividend);
+        sum.plus = sum.plus.times(&step);
+        sum.minus = sum.minus.times(&step);
+        sum.divisor = sum.divisor.times(&step);
+        if power % 2 == 0 {
+            sum.plus = sum.plus.plus(&term);
+        } else {
+            sum.minus = sum.minus.plus(&term);
+        }
+    }
+    sum
+}
+
+/// A hundred times the capacity at a level, as dividend and divisor.
+fn capacity(rows: &[(u64, u64)], level: u64) -> (u64, u64) {
+    let pair = rows.windows(2).find(|pair| level <= pair[1].0).unwrap();
+    let ((low, low_capacity), (high, high_capacity)) = (pair[0], pair[1]);
+    let step = high - low;
+    (100 * (low_capacity * step + (high_capacity - low_capacity) * (level - low)), step)
+}
+
+/// The exact gross mass of an accepted car, its series taken to a power.
+fn exact_gross(car: &Car, figures: &Figures, rows: &[(u64, u64)], powers: u64) -> Exact {
+    let (oil, oil_step) = capacity(rows, u64::from(figures.level));
+    let (water, water_step) = capacity(rows, u64::from(car.water_level));
+    let density = u64::from(car.density);
+    let temperature = u64::from(car.temperature);
+    let expansion = if car.stick == 1 { 100 } else { 121 };
+
+    // y, the exponent without its square, is b / r² for tenths of a degree and units of 10⁻¹⁰;
+    // the exponent is y + 0.8 y².
+    let b = Big::from(18_696_960_000_000 + 4_861_800_000 * density).by(temperature - 150);
+    let whole = Big::from(density * density).by(10_000_000_000);
+    let dividend = b.times(&whole).by(10).plus(&b.times(&b).by(8));
+    let divisor = whole.times(&whole).by(10);
+
+    exponential(&dividend, &divisor, powers)
+        .by(oil * water_step - water * oil_step, oil_step * water_step)
+        .by(20_000_000 + expansion * (temperature - 200), 20_000_000)
+        .by(density, 1_000_000)
+}
+
+#[test]
+fn masses_stay_near_the_exact_value() {
+    let mut cars = 0;
+    let mut widest = 0;
+    for seed in 0.. {
+        if cars >= 3_000 {
+            break;
+        }
+        let bytes = if seed % 50 == 0 { sheets::full_sheet(seed) } else { sheets::sheet(seed) };
+        let Ok(sheet) = Sheet::read(&bytes) else { continue };
+        for car in sheet.cars() {
+            let Ok(figures) = car.work_out(&sheet.tables) else { continue };
+            let rows = rows_of(&bytes, car.car_type);
+            for powers in [7, 8] {
+                let gross = exact_gross(car, &figures, &rows, powers);
+                let share = u64::from(10_000 - car.water - car.impurities);
+                let net = gross.by(share, 10_000);
+                let fields = <[u32; FIELDS]>::from(*car);
+                assert!(gross.is_near(figures.gross.into(), 55), "gross of {fields:?}");
+                assert!(net.is_near(figures.net.into(), 110), "net of {fields:?}");
+                if !gross.is_near(figures.gross.into(), 49) {
+                    widest += 1;
+                }
+            }
+            cars += 1;
+        }
+    }
+    // The bound is not idle: some masses lie almost half a kilogram off.
+    assert!(widest > 0);
+}
+
+/// The rows of a type, read from the text of a sheet.
+fn rows_of(sheet: &[u8], car_type: u32) -> Vec<(u64, u64)> {
+    let text = std::str::from_utf8(sheet).unwrap();
+    let numbers = |line: &str| -> Vec<u64> {
+        line[1..].split_whitespace().map(|number| number.parse().unwrap()).collect()
+    };
+    text.lines()
+        .skip_while(|line| !line.starts_with('T') || numbers(line)[0] != u64::from(car_type))
+        .skip(1)
+        .take_while(|line| line.starts_with('R'))
+        .map(|line| (numbers(line)[0], numbers(line)[1]))
+        .collect()
+}
+
+#[test]
+fn the_first_car_of_the_paper() {
+    let car = Car::from([50_000_001, 1, 3, 1, 2, 1500, 1500, 0, 0, 0, 600, 9500, 50, 20]);
+    let rows = [(0, 0), (1000, 20_000), (2000, 50_000), (3000, 70_000)];
+    let figures = Figures {
+        number: 50_000_001,
+        level: 1500,
+        volume: 3_500_000,
+        volume_at_15: 3_392_515,
+        gross: 32_229,
+        net: 32_003,
+    };
+    for powers in [7, 8] {
+        let gross = exact_gross(&car, &figures, &rows, powers);
+        assert!(gross.is_near(32_229, 55));
+        assert!(!gross.is_near(32_230, 55));
+        assert!(!gross.is_near(32_228, 55));
+        assert!(gross.by(9_930, 10_000).is_near(32_003, 110));
+    }
+}
+
+#[test]
+fn long_numbers() {
+    let factorial = |last: u64| (1..=last).fold(Big::from(1), |product, next| product.by(next));
+    assert_eq!(factorial(20), Big::from(2_432_902_008_176_640_000));
+    assert_eq!(factorial(30), factorial(28).by(29 * 30));
+    assert!(factorial(29).at_most(&factorial(30)) && !factorial(30).at_most(&factorial(29)));
+    assert_eq!(Big::from(u64::MAX).plus(&Big::from(1)), Big::from(1 << 32).by(1 << 32));
+}

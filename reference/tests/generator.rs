@@ -1,0 +1,81 @@
+//! The generator: equal seeds, all sizes, all refusals, a good share of accepted sheets and cars.
+
+use std::collections::{BTreeMap, HashSet};
+
+use reference::sheet::Sheet;
+use reference::{listing, sheets, SHEET_BYTES};
+
+const SEEDS: u64 = 4_000;
+
+#[test]
+fn equal_seeds_give_equal_sheets() {
+    for seed in [0, 1, 77, u64::MAX] {
+        assert_eq!(sheets::sheet(seed), sheets::sheet(seed));
+    }
+    let sheets: HashSet<Vec<u8>> = (0..100).map(sheets::sheet).collect();
+    assert!(sheets.len() >= 98);
+}
+
+#[test]
+fn every_outcome_is_met() {
+    let mut seen: BTreeMap<(u8, u32), u32> = BTreeMap::new();
+    let mut accepted_sheets = 0;
+    for seed in 0..SEEDS {
+        let listing = listing::of(&sheets::sheet(seed));
+        for line in String::from_utf8(listing).unwrap().lines() {
+            let letter = line.as_bytes()[0];
+            let second = line.split_whitespace().nth(2).unwrap().parse().unwrap();
+            let refusal = if letter == b'X' || letter == b'Z' { second } else { 0 };
+            *seen.entry((letter, refusal)).or_default() += 1;
+            accepted_sheets += u64::from(letter == b'S');
+        }
+    }
+    for refusal in 2..=9 {
+        assert!(seen[&(b'Z', refusal)] >= 5, "sheet refusal {refusal}");
+    }
+    for refusal in 10..=21 {
+        assert!(seen[&(b'X', refusal)] >= 100, "car refusal {refusal}");
+    }
+    let third = SEEDS / 3;
+    assert!((third - 200..2 * third).contains(&accepted_sheets), "{accepted_sheets} accepted");
+    let cars: u32 =
+        seen.iter().filter(|((letter, _), _)| b"AX".contains(letter)).map(|(_, n)| n).sum();
+    assert!(2 * seen[&(b'A', 0)] > cars, "half the cars and more are accepted");
+    assert!(u64::from(cars) > 10 * accepted_sheets, "many cars on an accepted sheet");
+}
+
+#[test]
+fn all_sizes_are_met() {
+    let mut tables = HashSet::new();
+    let mut cars = HashSet::new();
+    let mut rows = HashSet::new();
+    let mut longest = 0;
+    for seed in 0..SEEDS {
+        let bytes = sheets::sheet(seed);
+        longest = longest.max(bytes.len());
+        if let Ok(sheet) = Sheet::read(&bytes) {
+            tables.insert(sheet.tables.count());
+            cars.insert(sheet.cars().len());
+            let text = String::from_utf8(bytes).unwrap();
+            rows.extend(
+                text.lines()
+                    .filter(|line| line.starts_with('T'))
+                    .map(|line| line.split_whitespace().nth(2).unwrap().parse::<u32>().unwrap()),
+            );
+        }
+    }
+    assert_eq!(tables, HashSet::from([1, 2, 3, 4]));
+    assert_eq!(cars.len(), 61);
+    assert!((2..=60).all(|count| rows.contains(&count)) && rows.contains(&400));
+    assert!(longest > SHEET_BYTES);
+}
+
+#[test]
+fn full_sheets_are_full_and_accepted() {
+    for seed in 0..20 {
+        let bytes = sheets::full_sheet(seed);
+        assert_eq!(bytes.len(), SHEET_BYTES);
+        let listing = String::from_utf8(listing::of(&bytes)).unwrap();
+        assert!(listing.lines().last().unwrap().starts_with("S       60"));
+    }
+}

@@ -1,0 +1,183 @@
+//! The parts by themselves: tables, levels, a car alone, the running train.
+
+use reference::car::Car;
+use reference::level;
+use reference::refusal::Refusal;
+use reference::table::{Row, Tables};
+use reference::thermal::{self, Density15};
+use reference::train::Train;
+
+fn tables() -> Tables {
+    let mut tables = Tables::new();
+    tables.begin(1, 2).unwrap();
+    tables.add(Row { level: 0, capacity: 0 }).unwrap();
+    tables.add(Row { level: 3600, capacity: 200_000 }).unwrap();
+    tables
+}
+
+const CAR: Car = Car {
+    number: 1,
+    car_type: 1,
+    grade: 3,
+    stick: 1,
+    given: 2,
+    readings: [3600, 3600, 0, 0],
+    water_level: 0,
+    temperature: 400,
+    density: 9900,
+    water: 0,
+    impurities: 0,
+};
+
+#[test]
+fn tape_allowance_at_every_bound() {
+    let bounds = [1, 1000, 1001, 2000, 2001, 3000, 3001, 3600];
+    let allowances = bounds.map(|level| level::tape_allowance(level).unwrap());
+    assert_eq!(allowances, [30, 30, 45, 45, 60, 60, 75, 75]);
+    for level in [0, 3601, 99_999_999, u32::MAX] {
+        assert_eq!(level::tape_allowance(level), Err(Refusal::Level));
+    }
+}
+
+#[test]
+fn mean_level_by_itself() {
+    assert_eq!(level::mean(3, [1, 1, 1, 0]), Err(Refusal::ReadingCount));
+    assert_eq!(level::mean(2, [1, 9, 1, 0]), Err(Refusal::ReadingCount));
+    assert_eq!(level::mean(2, [1, 9, 0, 0]), Err(Refusal::ReadingsApart));
+    assert_eq!(level::mean(2, [0, 0, 0, 0]), Err(Refusal::Level));
+    assert_eq!(level::mean(2, [0, 1, 0, 0]), Ok(1));
+    assert_eq!(level::mean(4, [99_999_999, 99_999_997, 99_999_999, 99_999_999]), Ok(99_999_999));
+    assert_eq!(level::mean(4, [u32::MAX, 0, u32::MAX, u32::MAX]), Ok(u32::MAX));
+}
+
+#[test]
+fn the_order_of_four_readings_matters_only_through_the_first_two() {
+    for d in 3..12 {
+        for c in 0..=d {
+            for b in 0..=c {
+                let sorted = [100, 100 + b, 100 + c, 100 + d];
+                let lower = (sorted[0] + sorted[1] + sorted[2], sorted[2] - sorted[0]);
+                let upper = (sorted[1] + sorted[2] + sorted[3], sorted[3] - sorted[1]);
+                let sum = if lower.1 <= upper.1 { lower.0 } else { upper.0 };
+                let [p, q, r, s] = sorted;
+                assert_eq!(level::mean(4, [p, s, q, r]), Ok((2 * sum + 3) / 6));
+                assert_eq!(level::mean(4, [s, p, r, q]), Ok((2 * sum + 3) / 6));
+            }
+        }
+    }
+}
+
+#[test]
+fn capacity_meets_every_row() {
+    let mut tables = Tables::new();
+    tables.begin(9_999, 400).unwrap();
+    for row in 0..400 {
+        tables.add(Row { level: 9 * row, capacity: row * (row + 1) }).unwrap();
+    }
+    let table = tables.find(9_999).unwrap();
+    assert_eq!(table.last_level(), 3_591);
+    for row in 0..400_u64 {
+        assert_eq!(table.capacity(9 * row as u32), 100 * row * (row + 1));
+    }
+    // A ninth of the step of 2 dm³ from row 0 to row 1: 22.2 units to the mm.
+    let first: Vec<u64> = (0..=9).map(|level| table.capacity(level)).collect();
+    assert_eq!(first, [0, 22, 44, 67, 89, 111, 133, 156, 178, 200]);
+    assert!(tables.find(9_998).is_none());
+}
+
+#[test]
+fn tables_refuse_as_on_a_sheet() {
+    let mut tables = tables();
+    for (car_type, rows) in [(0, 2), (10_000, 2), (1, 2), (2, 0), (2, 1), (2, 401)] {
+        assert_eq!(tables.begin(car_type, rows), Err(Refusal::TableHead));
+    }
+    for car_type in 2..=4 {
+        tables.begin(car_type, 400).unwrap();
+        assert_eq!(tables.add(Row { level: 0, capacity: 1 }), Err(Refusal::TableRow));
+        assert_eq!(tables.add(Row { level: 0, capacity: 0 }), Ok(()));
+        assert_eq!(tables.add(Row { level: 0, capacity: 1 }), Err(Refusal::TableRow));
+        assert_eq!(tables.add(Row { level: 3601, capacity: 1 }), Err(Refusal::TableRow));
+        assert_eq!(tables.add(Row { level: 1, capacity: 200_001 }), Err(Refusal::TableRow));
+        assert_eq!(tables.add(Row { level: 3600, capacity: 200_000 }), Ok(()));
+    }
+    assert_eq!(tables.count(), 4);
+    assert_eq!(tables.begin(5, 2), Err(Refusal::TableHead));
+}
+
+#[test]
+fn coefficients_and_contractions() {
+    let figures = [
+        (9000, 771_027, 9_961_404_426),
+        (9250, 744_118, 9_962_752_898),
+        (9500, 718_937, 9_964_014_679),
+        (9750, 695_327, 9_965_197_655),
+        (9900, 681_857, 9_965_872_531),
+    ];
+    for (density, coefficient, contraction) in figures {
+        assert_eq!(thermal::coefficient(Density15(density)), coefficient);
+        assert_eq!(thermal::contraction(Density15(density), 50), contraction);
+    }
+    // 709,312.5 exactly.
+    assert_eq!(thermal::coefficient(Density15(9600)), 709_313);
+}
+
+#[test]
+fn the_heaviest_car_keeps_within_eight_digits() {
+    let mut train = Train::default();
+    for number in 1..=60 {
+        let figures = train.enter(&Car { number, ..CAR }, &tables()).unwrap();
+        assert_eq!((figures.volume, figures.gross), (20_000_000, 194_803));
+    }
+    assert_eq!((train.accepted, train.gross, train.net), (60, 60 * 194_803, 60 * 194_803));
+}
+
+#[test]
+fn a_car_alone_knows_no_earlier_cars() {
+    let tables = tables();
+    assert_eq!(CAR.work_out(&tables), CAR.work_out(&tables));
+    assert_eq!(Car { number: 0, ..CAR }.work_out(&tables), Err(Refusal::CarNumber));
+    assert_eq!(Car { number: 100_000_000, ..CAR }.work_out(&tables), Err(Refusal::CarNumber));
+    assert_eq!(CAR.work_out(&Tables::new()), Err(Refusal::Type));
+}
+
+#[test]
+fn refused_cars_leave_their_number_and_no_mass() {
+    let tables = tables();
+    let mut train = Train::default();
+    assert_eq!(train.enter(&Car { number: 0, ..CAR }, &tables), Err(Refusal::CarNumber));
+    assert!(train.numbers().is_empty());
+    assert_eq!(train.enter(&Car { grade: 9, ..CAR }, &tables), Err(Refusal::GradeOrStick));
+    assert_eq!(train.enter(&CAR, &tables), Err(Refusal::CarTwice));
+    assert_eq!(train.numbers(), [1]);
+    assert_eq!((train.accepted, train.gross, train.net), (0, 0, 0));
+}
+
+#[test]
+fn a_train_of_sixty_numbers_is_full() {
+    let tables = tables();
+    let mut train = Train::default();
+    for number in 1..=60 {
+        let refused = train.enter(&Car { number, stick: 3, ..CAR }, &tables);
+        assert_eq!(refused, Err(Refusal::GradeOrStick));
+    }
+    let before = train.clone();
+    for number in [0, 1, 61] {
+        assert_eq!(train.enter(&Car { number, ..CAR }, &tables), Err(Refusal::Count));
+    }
+    assert_eq!(train, before);
+}
+
+#[test]
+fn a_train_handed_in_past_its_limits_is_full() {
+    let tables = tables();
+    let handed_in = |accepted, gross, net| {
+        let mut train = Train::default();
+        (train.accepted, train.gross, train.net) = (accepted, gross, net);
+        train.enter(&CAR, &tables).err()
+    };
+    assert_eq!(handed_in(60, 12_000_000, 12_000_000), None);
+    assert_eq!(handed_in(61, 0, 0), Some(Refusal::Count));
+    assert_eq!(handed_in(0, 12_000_001, 0), Some(Refusal::Count));
+    assert_eq!(handed_in(0, 0, 12_000_001), Some(Refusal::Count));
+    assert_eq!(handed_in(u32::MAX, u64::MAX, u64::MAX), Some(Refusal::Count));
+}

@@ -1,0 +1,84 @@
+//! The three programs, run as programs.
+
+use std::fs;
+use std::io::Write;
+use std::path::{Path, PathBuf};
+use std::process::{Command, Stdio};
+
+use reference::conformance;
+use reference::{listing, sheets};
+
+fn rack(sheet: &[u8]) -> Vec<u8> {
+    let mut child = Command::new(env!("CARGO_BIN_EXE_rack_reference"))
+        .stdin(Stdio::piped())
+        .stdout(Stdio::piped())
+        .spawn()
+        .unwrap();
+    // The program stops reading a sheet that is too long, so writing may fail.
+    let _ = child.stdin.take().unwrap().write_all(sheet);
+    let output = child.wait_with_output().unwrap();
+    assert!(output.status.success());
+    output.stdout
+}
+
+fn empty_folder(name: &str) -> PathBuf {
+    let folder = Path::new(env!("CARGO_TARGET_TMPDIR")).join(name);
+    if folder.exists() {
+        fs::remove_dir_all(&folder).unwrap();
+    }
+    folder
+}
+
+#[test]
+fn the_rack_program_answers_every_conformance_sheet() {
+    for case in conformance::cases() {
+        assert_eq!(rack(&case.sheet), case.listing, "{}", case.name);
+    }
+}
+
+#[test]
+fn the_rack_program_refuses_endless_input() {
+    assert_eq!(rack(&vec![b'T'; 10_000_000]), b"Z        0        2\n");
+    assert_eq!(rack(&vec![b'T'; 39_772]), b"Z        0        2\n");
+    assert_eq!(rack(&vec![b'T'; 39_771]), b"Z        1        3\n");
+}
+
+#[test]
+fn make_sheets_writes_sheets_and_listings() {
+    let folder = empty_folder("sheets");
+    let made = Command::new(env!("CARGO_BIN_EXE_make_sheets"))
+        .args(["100", "20"])
+        .arg(&folder)
+        .status()
+        .unwrap();
+    assert!(made.success());
+    assert_eq!(fs::read_dir(&folder).unwrap().count(), 40);
+    for seed in 100..120 {
+        let sheet = fs::read(folder.join(format!("{seed}.sheet"))).unwrap();
+        let listing = fs::read(folder.join(format!("{seed}.listing"))).unwrap();
+        assert_eq!(sheet, sheets::sheet(seed));
+        assert_eq!(listing, listing::of(&sheet));
+    }
+}
+
+#[test]
+fn make_conformance_writes_sheets_and_listings() {
+    let folder = empty_folder("conformance");
+    let made = Command::new(env!("CARGO_BIN_EXE_make_conformance")).arg(&folder).status().unwrap();
+    assert!(made.success());
+    let cases = conformance::cases();
+    assert_eq!(fs::read_dir(&folder).unwrap().count(), 2 * cases.len());
+    for case in cases {
+        assert_eq!(fs::read(folder.join(format!("{}.sheet", case.name))).unwrap(), case.sheet);
+        assert_eq!(fs::read(folder.join(format!("{}.listing", case.name))).unwrap(), case.listing);
+    }
+}
+
+#[test]
+fn programs_explain_their_arguments() {
+    for program in [env!("CARGO_BIN_EXE_make_sheets"), env!("CARGO_BIN_EXE_make_conformance")] {
+        let output = Command::new(program).output().unwrap();
+        assert_eq!(output.status.code(), Some(2));
+        assert!(output.stderr.starts_with(b"usage: "));
+    }
+}

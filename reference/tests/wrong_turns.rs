@@ -1,0 +1,313 @@
+//! A second calculation that can take a wrong turn: each turn must show on the sheet made for it.
+
+use reference::conformance::cases;
+
+/// Places where the rules round.
+#[derive(Clone, Copy, Debug, PartialEq, Eq)]
+enum Step {
+    MeanOfTwo,
+    MeanOfThree,
+    Capacity,
+    VolumeAtTemperature,
+    Coefficient,
+    Exponent,
+    Term(u64),
+    VolumeAt15,
+    Gross,
+    Net,
+    Density20,
+}
+
+/// Ways to round that are not the rule's.
+#[derive(Clone, Copy, Debug, PartialEq, Eq)]
+enum Rounding {
+    Down,
+    Up,
+    HalfDown,
+    HalfToEven,
+}
+
+#[derive(Clone, Copy, Debug, PartialEq, Eq)]
+enum Turn {
+    None,
+    Round(Step, Rounding),
+    NetFromUnroundedGross,
+    CapacitiesRoundedOnce,
+    OilFrom20,
+    WallFrom15,
+    AverageOfFour,
+    SquareLeftOut,
+    ThreeClosestAlways,
+    UpperTriple,
+    SticksMixedUp,
+    NetTotalFromGrossTotal,
+    FiveTerms,
+}
+
+use Rounding::{Down, HalfDown, HalfToEven, Up};
+use Step::{
+    Capacity, Coefficient, Density20, Exponent, Gross, MeanOfThree, MeanOfTwo, Net, Term,
+    VolumeAt15, VolumeAtTemperature,
+};
+
+impl Turn {
+    fn round(self, step: Step, dividend: u64, divisor: u64) -> u64 {
+        let down = dividend / divisor;
+        let twice_rest = 2 * (dividend % divisor);
+        let up = down + u64::from(twice_rest > 0);
+        let rounding = match self {
+            Self::Round(turned, rounding) if turned == step => Some(rounding),
+            _ => None,
+        };
+        match rounding {
+            Some(Down) => down,
+            Some(Up) => up,
+            Some(HalfDown) if twice_rest == divisor => down,
+            Some(HalfToEven) if twice_rest == divisor => down + down % 2,
+            _ if twice_rest >= divisor => up,
+            _ => down,
+        }
+    }
+
+    fn mean_level(self, given: u64, readings: &[u64]) -> u64 {
+        let (first, second) = (readings[0], readings[1]);
+        if self == Self::AverageOfFour && given == 4 {
+            return self.round(MeanOfThree, readings.iter().sum(), 4);
+        }
+        let always_three = self == Self::ThreeClosestAlways && given == 4;
+        if first.abs_diff(second) <= 1 && !always_three {
+            return self.round(MeanOfTwo, first + second, 2);
+        }
+        let mut sorted = readings.to_vec();
+        sorted.sort();
+        let (lower, upper) = (sorted[2] - sorted[0], sorted[3] - sorted[1]);
+        let take_lower = lower < upper || lower == upper && self != Self::UpperTriple;
+        let triple = if take_lower { &sorted[..3] } else { &sorted[1..] };
+        self.round(MeanOfThree, triple.iter().sum(), 3)
+    }
+
+    /// Oil volume at 20 °C.
+    fn volume(self, rows: &[(u64, u64)], level: u64, water: u64) -> u64 {
+        let (oil, oil_step) = fraction(rows, level);
+        let (water, water_step) = fraction(rows, water);
+        if self == Self::CapacitiesRoundedOnce {
+            let difference = oil * water_step - water * oil_step;
+            return self.round(Capacity, difference, oil_step * water_step);
+        }
+        self.round(Capacity, oil, oil_step) - self.round(Capacity, water, water_step)
+    }
+
+    fn contraction(self, density: u64, tenths: u64) -> u64 {
+        const ONE: u64 = 10_000_000_000;
+        let coefficient = self.round(
+            Coefficient,
+            18_696_960_000_000 + 4_861_800_000 * density,
+            density * density,
+        );
+        let plain = coefficient * tenths;
+        let square = self.round(Exponent, 8 * plain * plain, 100_000_000_000);
+        let exponent = if self == Self::SquareLeftOut { plain } else { plain + square };
+        let mut terms = vec![ONE, exponent];
+        for k in 2..=6 {
+            terms.push(self.round(Term(k), terms[k as usize - 1] * exponent, k * ONE));
+        }
+        if self == Self::FiveTerms {
+            terms.pop();
+        }
+        let (mut plus, mut minus) = (0, 0);
+        for (power, term) in terms.iter().enumerate() {
+            if power % 2 == 0 {
+                plus += term;
+            } else {
+                minus += term;
+            }
+        }
+        plus - minus
+    }
+
+    /// The figures of a car that no other refusal than 21 turns away.
+    fn figures(self, rows: &[(u64, u64)], car: &[u64]) -> Result<[u64; 6], u64> {
+        let (number, grade, stick, temperature, density) =
+            (car[0], car[2], car[3], car[10], car[11]);
+        let density_at_20 =
+            self.round(Density20, density * self.contraction(density, 50), 10_000_000_000);
+        if grade == 1 && density_at_20 > 9_550 || grade == 2 && density_at_20 > 9_600 {
+            return Err(21);
+        }
+        let level = self.mean_level(car[4], &car[5..9]);
+        let volume = self.volume(rows, level, car[9]);
+        let steel = (stick == 1) != (self == Self::SticksMixedUp);
+        let wall = temperature - if self == Self::WallFrom15 { 150 } else { 200 };
+        let factor = 20_000_000 + if steel { 100 } else { 121 } * wall;
+        let measured = self.round(VolumeAtTemperature, volume * factor, 20_000_000);
+        let tenths = temperature - if self == Self::OilFrom20 { 200 } else { 150 };
+        let contraction = self.contraction(density, tenths);
+        let volume_at_15 = self.round(VolumeAt15, measured * contraction, 10_000_000_000);
+        let gross = self.round(Gross, volume_at_15 * density, 1_000_000);
+        let share = 10_000 - car[12] - car[13];
+        let net = if self == Self::NetFromUnroundedGross {
+            self.round(Net, volume_at_15 * density * share, 10_000_000_000)
+        } else {
+            self.round(Net, gross * share, 10_000)
+        };
+        Ok([number, level, volume, volume_at_15, gross, net])
+    }
+
+    /// The listing of a sheet with one table and no other refusal than 21.
+    fn listing(self, sheet: &[u8]) -> String {
+        let text = std::str::from_utf8(sheet).unwrap();
+        let numbers = |line: &str| -> Vec<u64> {
+            line[1..].split_whitespace().map(|number| number.parse().unwrap()).collect()
+        };
+        let of = |letter| text.lines().filter(move |line| line.starts_with(letter)).map(numbers);
+        let rows: Vec<(u64, u64)> = of('R').map(|row| (row[0], row[1])).collect();
+        let mut listing = String::new();
+        let (mut accepted, mut gross, mut net) = (0, 0, 0);
+        let mut shares = 0;
+        for car in of('C') {
+            match self.figures(&rows, &car) {
+                Ok(figures) => {
+                    accepted += 1;
+                    gross += figures[4];
+                    net += figures[5];
+                    listing.push_str(&line('A', &figures));
+                }
+                Err(refusal) => listing.push_str(&line('X', &[car[0], refusal])),
+            }
+            shares = 10_000 - car[12] - car[13];
+        }
+        if self == Self::NetTotalFromGrossTotal {
+            net = self.round(Net, gross * shares, 10_000);
+        }
+        listing.push_str(&line('S', &[accepted, gross, net]));
+        listing
+    }
+}
+
+/// A hundred times the capacity at a level, as dividend and divisor.
+fn fraction(rows: &[(u64, u64)], level: u64) -> (u64, u64) {
+    let pair = rows.windows(2).find(|pair| level <= pair[1].0).unwrap();
+    let ((low, low_capacity), (high, high_capacity)) = (pair[0], pair[1]);
+    let step = high - low;
+    (100 * (low_capacity * step + (high_capacity - low_capacity) * (level - low)), step)
+}
+
+fn line(letter: char, numbers: &[u64]) -> String {
+    let fields: String = numbers.iter().map(|number| format!("{number:>9}")).collect();
+    format!("{letter}{fields}\n")
+}
+
+const TURNS: &[(&str, &[Turn])] = &[
+    ("parting-net-from-unrounded-gross", &[Turn::NetFromUnroundedGross]),
+    ("parting-capacities-rounded-once", &[Turn::CapacitiesRoundedOnce]),
+    ("parting-expansion-of-oil-from-20", &[Turn::OilFrom20]),
+    ("parting-expansion-of-wall-from-15", &[Turn::WallFrom15]),
+    ("parting-average-of-all-four-readings", &[Turn::AverageOfFour]),
+    ("parting-square-left-out", &[Turn::SquareLeftOut]),
+    ("parting-three-closest-though-first-two-agree", &[Turn::ThreeClosestAlways]),
+    ("parting-upper-triple-of-a-tie", &[Turn::UpperTriple]),
+    ("parting-sticks-mixed-up", &[Turn::SticksMixedUp]),
+    ("parting-net-total-from-gross-total", &[Turn::NetTotalFromGrossTotal]),
+    (
+        "rounding-mean-of-two-half-goes-up",
+        &[
+            Turn::Round(MeanOfTwo, Down),
+            Turn::Round(MeanOfTwo, HalfDown),
+            Turn::Round(MeanOfTwo, HalfToEven),
+        ],
+    ),
+    ("rounding-mean-of-three", &[Turn::Round(MeanOfThree, Down), Turn::Round(MeanOfThree, Up)]),
+    (
+        "rounding-capacity-half-goes-up",
+        &[
+            Turn::Round(Capacity, Down),
+            Turn::Round(Capacity, HalfDown),
+            Turn::Round(Capacity, HalfToEven),
+        ],
+    ),
+    (
+        "rounding-capacity-of-water-half-goes-up",
+        &[
+            Turn::Round(Capacity, Down),
+            Turn::Round(Capacity, HalfDown),
+            Turn::Round(Capacity, HalfToEven),
+            Turn::CapacitiesRoundedOnce,
+        ],
+    ),
+    (
+        "rounding-capacity-to-nearest",
+        &[Turn::Round(Capacity, Down), Turn::Round(Capacity, Up), Turn::CapacitiesRoundedOnce],
+    ),
+    (
+        "rounding-volume-at-temperature",
+        &[
+            Turn::Round(VolumeAtTemperature, Down),
+            Turn::Round(VolumeAtTemperature, Up),
+            Turn::Round(VolumeAtTemperature, HalfDown),
+            Turn::Round(VolumeAtTemperature, HalfToEven),
+        ],
+    ),
+    (
+        "rounding-coefficient-half-at-density-9600",
+        &[
+            Turn::Round(Coefficient, Down),
+            Turn::Round(Coefficient, HalfDown),
+            Turn::Round(Coefficient, HalfToEven),
+        ],
+    ),
+    (
+        "rounding-exponent-and-terms",
+        &[
+            Turn::Round(Coefficient, Down),
+            Turn::Round(Coefficient, Up),
+            Turn::Round(Exponent, Down),
+            Turn::Round(Exponent, Up),
+            Turn::Round(Term(2), Down),
+            Turn::Round(Term(2), Up),
+            Turn::Round(Term(3), Down),
+            Turn::Round(Term(3), Up),
+            Turn::Round(Term(4), Down),
+            Turn::Round(Term(4), Up),
+            Turn::Round(Term(5), Down),
+            Turn::Round(Term(5), Up),
+            Turn::Round(Term(6), Down),
+            Turn::Round(Term(6), Up),
+            Turn::FiveTerms,
+        ],
+    ),
+    ("rounding-volume-at-15", &[Turn::Round(VolumeAt15, Down), Turn::Round(VolumeAt15, Up)]),
+    (
+        "rounding-gross-half-goes-up",
+        &[Turn::Round(Gross, Down), Turn::Round(Gross, HalfDown), Turn::Round(Gross, HalfToEven)],
+    ),
+    ("rounding-gross-to-nearest", &[Turn::Round(Gross, Down), Turn::Round(Gross, Up)]),
+    (
+        "rounding-net-half-goes-up",
+        &[Turn::Round(Net, Down), Turn::Round(Net, HalfDown), Turn::Round(Net, HalfToEven)],
+    ),
+    ("rounding-net-to-nearest", &[Turn::Round(Net, Down), Turn::Round(Net, Up)]),
+    ("rounding-density-at-20", &[Turn::Round(Density20, Down)]),
+];
+
+#[test]
+fn every_wrong_turn_shows_on_its_sheet() {
+    let cases = cases();
+    for (name, turns) in TURNS {
+        let case = cases.iter().find(|case| case.name == *name).expect(name);
+        let listing = String::from_utf8_lossy(&case.listing);
+        assert_eq!(Turn::None.listing(&case.sheet), listing, "{name}");
+        for turn in *turns {
+            assert_ne!(turn.listing(&case.sheet), listing, "{name}: {turn:?} does not show");
+        }
+    }
+}
+
+#[test]
+fn every_parting_and_rounding_sheet_has_a_wrong_turn() {
+    for case in cases() {
+        if case.name.starts_with("parting-") || case.name.starts_with("rounding-") {
+            let known = TURNS.iter().any(|(name, _)| *name == case.name);
+            assert!(known, "{} shows no wrong turn", case.name);
+        }
+    }
+}
