@@ -1,0 +1,104 @@
+//! Times the proved code beside the reference on the same sheets, in one run of a few seconds.
+
+use std::hint::black_box;
+use std::time::{Duration, Instant};
+
+use reference::{sheets, ANSWER_BYTES, SHEET_BYTES};
+
+/// Rounds of both programs by turns; the median of each counts.
+const ROUNDS: usize = 15;
+
+/// About how long one round of one program lasts.
+const ROUND_TIME: Duration = Duration::from_millis(12);
+
+/// The sheet printed in the rules.
+const SMALL: &[u8] = include_bytes!("../../../crates/rack/stdin");
+
+type Program = fn(&[u8], &mut [u8]) -> (usize, u32);
+
+fn main() {
+    let full: Vec<Vec<u8>> = (0..8).map(sheets::full_sheet).collect();
+    assert!(full.iter().all(|sheet| sheet.len() == SHEET_BYTES));
+    let half: Vec<Vec<u8>> = full.iter().map(|sheet| half_of(sheet)).collect();
+    let refused: Vec<Vec<u8>> = full.iter().map(|sheet| with_wrong_end(sheet)).collect();
+
+    println!("Nanoseconds for one sheet, median of {ROUNDS} rounds by turns.");
+    println!("Each program has one answer buffer, which is not cleared between sheets.");
+    println!("{:42} {:>9} {:>9} {:>9} {:>7}", "sheet", "bytes", "proved", "reference", "ratio");
+    compare("small, the rules' own", &[SMALL.to_vec()], 0);
+    compare("half the length, 8 in turn", &half, 0);
+    compare("full, 60 cars accepted, 8 in turn", &full, 0);
+    compare("full, refused at its last line, 8 in turn", &refused, 9);
+}
+
+/// Prints the line of some sheets, all of which hand back the same number.
+fn compare(name: &str, sheets: &[Vec<u8>], number: u32) {
+    for sheet in sheets {
+        let mut answer = [0; ANSWER_BYTES];
+        assert_eq!(outside::answer_sheet(sheet, &mut answer).1, number);
+        assert_eq!(reference::answer_sheet(sheet, &mut answer).1, number);
+    }
+    let passes = passes_of_a_round(sheets);
+    let mut proved = Vec::new();
+    let mut expected = Vec::new();
+    for _ in 0..ROUNDS {
+        proved.push(nanoseconds(outside::answer_sheet, sheets, passes));
+        expected.push(nanoseconds(reference::answer_sheet, sheets, passes));
+    }
+    let (proved, expected) = (median(proved), median(expected));
+    let bytes = sheets.iter().map(Vec::len).sum::<usize>() / sheets.len();
+    let ratio = proved / expected;
+    println!("{name:42} {bytes:>9} {proved:>9.0} {expected:>9.0} {ratio:>7.2}");
+}
+
+/// How often a round goes through the sheets; finding it warms both programs up.
+fn passes_of_a_round(sheets: &[Vec<u8>]) -> u32 {
+    let mut passes = 1;
+    loop {
+        let start = Instant::now();
+        nanoseconds(outside::answer_sheet, sheets, passes);
+        nanoseconds(reference::answer_sheet, sheets, passes);
+        if start.elapsed() >= 2 * ROUND_TIME {
+            return passes;
+        }
+        passes *= 2;
+    }
+}
+
+/// Nanoseconds for one sheet.
+fn nanoseconds(program: Program, sheets: &[Vec<u8>], passes: u32) -> f64 {
+    let mut answer = [0; ANSWER_BYTES];
+    let start = Instant::now();
+    for _ in 0..passes {
+        for sheet in sheets {
+            black_box(program(black_box(sheet), black_box(&mut answer)));
+        }
+    }
+    start.elapsed().as_nanos() as f64 / f64::from(passes) / sheets.len() as f64
+}
+
+fn median(mut times: Vec<f64>) -> f64 {
+    times.sort_by(f64::total_cmp);
+    times[times.len() / 2]
+}
+
+/// The first two tables of a full sheet, with thirty cars: the first two tables' own, and others
+/// that are refused by 12.
+fn half_of(full: &[u8]) -> Vec<u8> {
+    let lines: Vec<&[u8]> = full.split_inclusive(|&byte| byte == b'\n').collect();
+    let (tables, cars) = (&lines[..2 * 401], &lines[4 * 401..4 * 401 + 60]);
+    let known = |car: &&&[u8]| [lines[0], lines[401]].iter().any(|head| head[1..10] == car[10..19]);
+    let unknown = |car: &&&[u8]| !known(car);
+    let chosen = cars.iter().filter(known).chain(cars.iter().filter(unknown)).take(30);
+    let mut sheet = tables.concat();
+    chosen.for_each(|car| sheet.extend_from_slice(car));
+    sheet.extend_from_slice(b"E       30\n");
+    sheet
+}
+
+/// A sheet whose last line counts one car too few.
+fn with_wrong_end(full: &[u8]) -> Vec<u8> {
+    let mut sheet = full[..SHEET_BYTES - 11].to_vec();
+    sheet.extend_from_slice(b"E       59\n");
+    sheet
+}

@@ -1,0 +1,142 @@
+//! Answers generated sheets with the proved code and with the reference, and compares both to the
+//! byte: `differential [COUNT [FIRST_SEED]]`. Ends with status 1 at the first difference.
+
+use std::process::ExitCode;
+
+use reference::{sheets, ANSWER_BYTES};
+
+/// Sheets that are compared where the caller names no count.
+const SHEETS: u64 = 20_000;
+
+/// Bytes on both sides of the answer buffer, which no program may touch.
+const MARGIN: usize = 64;
+
+/// Refusals are numbered below this.
+const NUMBERS: usize = 23;
+
+fn main() -> ExitCode {
+    let arguments: Vec<String> = std::env::args().skip(1).collect();
+    let numbers: Option<Vec<u64>> = arguments.iter().map(|text| text.parse().ok()).collect();
+    let (count, first) = match numbers.as_deref() {
+        Some([]) => (SHEETS, 0),
+        Some([count]) => (*count, 0),
+        Some([count, first]) => (*count, *first),
+        _ => {
+            eprintln!("usage: differential [COUNT [FIRST_SEED]]");
+            return ExitCode::from(2);
+        }
+    };
+
+    let mut tally = Tally::default();
+    for seed in (0..count).map(|place| first.wrapping_add(place)) {
+        let sheet = sheets::sheet(seed);
+        let proved = Outcome::of(outside::answer_sheet, &sheet, seed);
+        let expected = Outcome::of(reference::answer_sheet, &sheet, seed);
+        if proved != expected {
+            report_difference(seed, &sheet, &proved, &expected);
+            return ExitCode::FAILURE;
+        }
+        tally.add(&proved);
+    }
+    tally.print();
+    ExitCode::SUCCESS
+}
+
+/// What a program did with a sheet: what it returned, and all bytes of the buffer and around it.
+#[derive(PartialEq)]
+struct Outcome {
+    length: usize,
+    number: u32,
+    bytes: Vec<u8>,
+}
+
+impl Outcome {
+    /// Lends a buffer with the seed's size and pattern to a program.
+    fn of(program: fn(&[u8], &mut [u8]) -> (usize, u32), sheet: &[u8], seed: u64) -> Self {
+        let room = room(seed);
+        let mut bytes: Vec<u8> =
+            (0..room + 2 * MARGIN).map(|place| mix(seed ^ (place as u64) << 32) as u8).collect();
+        let (length, number) = program(sheet, &mut bytes[MARGIN..MARGIN + room]);
+        Self { length, number, bytes }
+    }
+
+    /// The bytes that the program says it wrote, as far as there are so many.
+    fn answer(&self) -> &[u8] {
+        let room = self.bytes.len() - 2 * MARGIN;
+        &self.bytes[MARGIN..MARGIN + self.length.min(room)]
+    }
+}
+
+/// Bytes of the answer buffer: mostly just enough, at times more, one in eight too few.
+fn room(seed: u64) -> usize {
+    let drawn = mix(seed) as usize;
+    match drawn % 16 {
+        0 => (drawn >> 8) % ANSWER_BYTES,
+        1 => ANSWER_BYTES - 1,
+        2..=5 => ANSWER_BYTES + (drawn >> 8) % 5_000,
+        _ => ANSWER_BYTES,
+    }
+}
+
+/// A number that looks drawn by lot, the same for the same seed.
+fn mix(seed: u64) -> u64 {
+    let mut bits = seed.wrapping_add(0x9e37_79b9_7f4a_7c15);
+    bits = (bits ^ (bits >> 30)).wrapping_mul(0xbf58_476d_1ce4_e5b9);
+    bits = (bits ^ (bits >> 27)).wrapping_mul(0x94d0_49bb_1331_11eb);
+    bits ^ (bits >> 31)
+}
+
+fn report_difference(seed: u64, sheet: &[u8], proved: &Outcome, expected: &Outcome) {
+    println!("seed {seed}: the answers differ, buffer of {} bytes", room(seed));
+    println!("proved: length {}, number {}", proved.length, proved.number);
+    println!("reference: length {}, number {}", expected.length, expected.number);
+    let place = proved.bytes.iter().zip(&expected.bytes).position(|(one, other)| one != other);
+    if let Some(place) = place {
+        println!("first byte that differs: {} of the buffer", place as isize - MARGIN as isize);
+    }
+    println!("sheet:\n{}", sheet.escape_ascii().to_string().replace("\\n", "\n"));
+    println!("proved:\n{}", String::from_utf8_lossy(proved.answer()));
+    println!("reference:\n{}", String::from_utf8_lossy(expected.answer()));
+}
+
+/// What was seen.
+#[derive(Default)]
+struct Tally {
+    sheets: u64,
+    accepted_sheets: u64,
+    accepted_cars: u64,
+    refusals: [u64; NUMBERS],
+}
+
+impl Tally {
+    fn add(&mut self, outcome: &Outcome) {
+        self.sheets += 1;
+        match outcome.number {
+            0 => self.accepted_sheets += 1,
+            number => self.refusals[number as usize] += 1,
+        }
+        for line in outcome.answer().split(|&byte| byte == b'\n') {
+            match line.first() {
+                Some(b'A') => self.accepted_cars += 1,
+                Some(b'X') => self.refusals[last_field(line)] += 1,
+                _ => {}
+            }
+        }
+    }
+
+    fn print(&self) {
+        println!("{} sheets answered alike, length, number and every byte", self.sheets);
+        println!("accepted: {} sheets, {} cars", self.accepted_sheets, self.accepted_cars);
+        for (kind, range) in [("sheets", 1..10), ("cars", 10..22)] {
+            let counts: Vec<String> =
+                range.map(|number| format!("{number}: {}", self.refusals[number])).collect();
+            println!("{kind} refused, by number: {}", counts.join(", "));
+        }
+    }
+}
+
+/// The number in the last nine columns of a line.
+fn last_field(line: &[u8]) -> usize {
+    let text = std::str::from_utf8(&line[line.len() - 9..]).expect("a line of the listing");
+    text.trim_start().parse().expect("a field of the listing")
+}
