@@ -21,10 +21,6 @@ pub cond-same : {A : Type 0} (t : Bool) (x : A) → cond t x x ≡ x
 cond-same true x = refl
 cond-same false x = refl
 
-pub cond-test : (t : Bool) → cond t true false ≡ t
-cond-test true = refl
-cond-test false = refl
-
 -- two tests of which both hold
 pub both : (a b : Bool) → cond a b false ≡ true → (a ≡ true) × (b ≡ true)
 both true b e = (refl, e)

@@ -1,10 +1,9 @@
 -- The order of fractions.
 use mathlib.Core.Path.{_≡_, ap}
 use Prim.Native.Nat.{ℕ, suc, pred, _+_, _*_, _-_, _≤_}
-use native.Mathlib.Nat.{add-mul, mul-le-mul, mul-le-mul-right, le-of-mul-le-mul-right}
+use native.Mathlib.Nat.{add-mul, mul-le-mul-right, le-of-mul-le-mul-right}
 use native.Mathlib.Omega.{arith}
-use Rattle.base.specs.Fraction.{Frac, whole, _+ᶠ_, _-ᶠ_, _*ᶠ_, _/ᶠ_, _≤ᶠ_}
-use Rattle.base.proofs.Product.{sub-mul}
+use Rattle.base.specs.Fraction.{Frac, whole, _+ᶠ_, _-ᶠ_, _/ᶠ_, _≤ᶠ_}
 
 pub ≤ᶠ-refl : (x : Frac) → x ≤ᶠ x
 ≤ᶠ-refl x = omega arith
@@ -30,15 +29,6 @@ module _ {x y u v : Frac} (h : x ≤ᶠ y) (k : u ≤ᶠ v) where
   pub ≤ᶠ-add : x +ᶠ u ≤ᶠ y +ᶠ v
   unfolding _+ᶠ_
   ≤ᶠ-add = omega (arith, mul-le-mul-right (u .den * v .den) (h .le), mul-le-mul-right (x .den * y .den) (k .le))
-
-  pub ≤ᶠ-mul : x *ᶠ u ≤ᶠ y *ᶠ v
-  unfolding _*ᶠ_
-  ≤ᶠ-mul = omega (arith, mul-le-mul (h .le) (k .le))
-
-  -- a difference rises with its first part and falls with its second
-  pub ≤ᶠ-sub : x -ᶠ v ≤ᶠ y -ᶠ u
-  unfolding _-ᶠ_
-  ≤ᶠ-sub = record { le = simp sub-mul (omega (arith, mul-le-mul-right (u .den * v .den) (h .le), mul-le-mul-right (x .den * y .den) (k .le))) }
 
 -- a difference that is not cut off at 0 adds up again
 pub sub-whole : {x y : Frac} → y ≤ᶠ x → (x ≤ᶠ (x -ᶠ y) +ᶠ y) × ((x -ᶠ y) +ᶠ y ≤ᶠ x)

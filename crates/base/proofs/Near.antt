@@ -1,7 +1,7 @@
 -- How far a computed number lies from an exact fraction, carried along the operations.
 -- Each law multiplies its hypotheses by the factors that their sides lack; `omega` then compares sums of products.
 use Prim.Native.Nat.{ℕ, _+_, _*_, _-_, _/_, _≤_, _<_}
-use native.Mathlib.Nat.{mul-le-mul, mul-le-mul-left, mul-le-mul-right, mul-sub, suc-pred-eq-of-pos, le-trans, lt-div-mul-add}
+use native.Mathlib.Nat.{mul-le-mul, mul-le-mul-right, mul-sub, suc-pred-eq-of-pos, le-trans, lt-div-mul-add}
 use native.Mathlib.Omega.{arith}
 use Rattle.base.specs.Rounding.{rounded}
 use Rattle.base.specs.Fraction.{Frac, whole, _+ᶠ_, _-ᶠ_, _*ᶠ_, _/ᶠ_, _≤ᶠ_, Within}

@@ -9,7 +9,6 @@ use lib.ListN.{length, getD, List·getD-eq-default}
 use Rattle.base.proofs.Choice.{below, cond-same}
 use Rattle.field.specs.declared.Seen.{Seen}
 use Rattle.field.specs.declared.Seen.the-variants.{Blank, Digits, Broken}
-use Rattle.field.specs.declared.Field.{Field}
 use Rattle.field.specs.declared.Field.the-variants.{Number, NotNumber}
 use Rattle.field.specs.Field.{columnOf, seenTo, finish, fieldAt}
 

@@ -1,7 +1,6 @@
 -- Figures of the rack card on mean level and tape allowance, each by computation.
-use Prim.Native.Nat.{ℕ}
 use mathlib.Core.Path.{_≡_, refl}
-use mathlib.Core.List.{List, [], _∷_}
+use mathlib.Core.List.{[], _∷_}
 use Rattle.base.specs.Rounding.{rounded}
 use Rattle.base.specs.Answer.{figures, refusal}
 use Rattle.level.specs.Level.{meanLevel, unusedBad, disagree, readingsTests, meanLevelAnswer}

@@ -5,14 +5,13 @@ use mathlib.Core.Bool.{Bool, true, false, cond}
 use mathlib.Core.List.{List, [], _∷_, _++_}
 use native.Mathlib.Nat.{zero-add}
 use native.Mathlib.Omega.{arith}
-use lib.ListN.{length, getD, take, drop, length-append, List·getD-append}
+use lib.ListN.{length, getD, take, length-append, List·getD-append}
 use lib.Seq.{getD-take, length-take-le}
-use lib.Dec.{eqb, ltb}
+use lib.Dec.{eqb}
 use borrow.Author.Tests.{eqb-true, eqb-false, lt-ltb}
 use Rattle.field.specs.declared.Field.{Field}
 use Rattle.field.specs.Field.{fieldAt}
 use Rattle.field.proofs.Reading.{field-same}
-use Rattle.line.specs.declared.letter.Letter.{Letter}
 use Rattle.line.specs.declared.reading.Found.{Found}
 use Rattle.line.specs.declared.reading.Found.the-variants.{Is, Nothing}
 use Rattle.line.specs.declared.reading.Reading.the-variants.{Read}

@@ -1,7 +1,7 @@
 -- Worked examples, computed: the first car of document 01's sheet, a leading zero, and a line with a carriage return.
 use Prim.Native.Nat.{ℕ}
 use mathlib.Core.Path.{_≡_, refl}
-use mathlib.Core.List.{List, [], _∷_, _++_}
+use mathlib.Core.List.{List, [], _∷_}
 use lib.ListN.{replicate}
 use Rattle.field.specs.Field.{seenTo, fieldAt, justified, fieldOf}
 use Rattle.line.specs.declared.letter.Letter.the-variants.{Row, Car}

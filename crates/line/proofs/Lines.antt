@@ -1,12 +1,12 @@
 -- What a line is read as, by the tests on the way, and what is known of a line that was read.
-use Prim.Native.Nat.{ℕ, zero, suc, _+_, _-_, _*_, _≤_, _<_}
+use Prim.Native.Nat.{ℕ, _+_, _-_, _*_, _≤_, _<_}
 use mathlib.Core.Path.{_≡_, refl, ap, sym, _∙_}
 use mathlib.Core.Bool.{Bool, true, false, cond}
 use mathlib.Core.Logic.{⊎-elim}
 use mathlib.Core.List.{List}
 use native.Mathlib.Omega.{arith}
 use lib.ListN.{length, getD, replicate}
-use lib.Dec.{ltb, eqb}
+use lib.Dec.{eqb}
 use borrow.Author.Tests.{eq-eqb, ne-eqb, lt-ltb, le-ltb, eqb-true}
 use Rattle.base.proofs.Choice.{below, never}
 use Rattle.line.specs.declared.letter.Letter.{Letter}
@@ -15,7 +15,6 @@ use Rattle.line.specs.declared.reading.Due.{Due}
 use Rattle.line.specs.declared.reading.Found.{Found}
 use Rattle.line.specs.declared.reading.Found.the-variants.{Is, Nothing}
 use Rattle.line.specs.declared.reading.Numbers.{Numbers}
-use Rattle.line.specs.declared.reading.Reading.{Reading}
 use Rattle.line.specs.declared.reading.Reading.the-variants.{Read, Refused}
 use Rattle.line.specs.declared.reading.LineRead.{LineRead}
 use Rattle.line.specs.Letter.{byteOf, countOf}

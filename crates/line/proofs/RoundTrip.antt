@@ -10,10 +10,9 @@ use lib.ListN.{length, getD, take, drop, replicate, length-append, length-drop, 
 use lib.Seq.{take-add, take-at, take-suc, take-take, drop-cons, drop-drop, drop-at, append-snoc, length-take-le, getD-drop, getD-take}
 use lib.Dec.{eqb}
 use borrow.Author.Tests.{ne-eqb}
-use Rattle.base.specs.Answer.{figures}
 use Rattle.base.specs.Buffer.{put}
 use Rattle.field.specs.declared.Field.{Field}
-use Rattle.field.specs.declared.Field.the-variants.{Number, NotNumber}
+use Rattle.field.specs.declared.Field.the-variants.{Number}
 use Rattle.field.specs.Field.{fieldAt, glyphOf, justified, fieldOf}
 use Rattle.field.proofs.Writing.{length-fieldOf}
 use Rattle.field.proofs.RoundTrip.{written-read, read-written}
@@ -23,14 +22,13 @@ use Rattle.line.specs.declared.letter.Line.{Line}
 use Rattle.line.specs.declared.reading.Due.{Due}
 use Rattle.line.specs.declared.reading.Found.the-variants.{Is}
 use Rattle.line.specs.declared.reading.Reading.the-variants.{Read}
-use Rattle.line.specs.declared.reading.LineRead.{LineRead}
 use Rattle.line.specs.Letter.{byteOf, countOf, widthOf}
-use Rattle.line.specs.Reading.{letterOf, feed, feedAt, isNumber, numberOf, good, values, filled, lineAt, any, readLine}
+use Rattle.line.specs.Reading.{letterOf, feed, feedAt, numberOf, good, values, filled, lineAt, any, readLine}
 use Rattle.line.specs.Writing.{fieldsOf, lineOf, smallTo, writable, afterWrite}
-use Rattle.line.specs.RoundTrip.{OfSheet, readAs, WrittenReadsBack, ReadWritesBack}
+use Rattle.line.specs.RoundTrip.{readAs, WrittenReadsBack, ReadWritesBack}
 use Rattle.line.proofs.Fields.{feed-byte, is-number, good-part, good-at, length-values, value-at}
 use Rattle.line.proofs.Lines.{Head, line-read, IsLine, is-line, from-letter}
-use Rattle.line.proofs.Bytes.{count-most, small-at, small-from, length-fieldsOf, fields-snoc, fields-length, length-lineOf, can-write, has-room, laid, answered}
+use Rattle.line.proofs.Bytes.{count-most, small-at, small-from, fields-snoc, fields-length, length-lineOf, can-write, has-room, laid, answered}
 
 -- Read and written again.
 

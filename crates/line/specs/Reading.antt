@@ -14,7 +14,6 @@ use Rattle.line.specs.declared.reading.Due.{Due}
 use Rattle.line.specs.declared.reading.Found.{Found}
 use Rattle.line.specs.declared.reading.Found.the-variants.{Is, Nothing}
 use Rattle.line.specs.declared.reading.Numbers.{Numbers}
-use Rattle.line.specs.declared.reading.Reading.{Reading}
 use Rattle.line.specs.declared.reading.Reading.the-variants.{Read, Refused}
 use Rattle.line.specs.declared.reading.LineRead.{LineRead}
 use Rattle.line.specs.Letter.{byteOf, countOf}

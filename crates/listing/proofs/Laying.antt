@@ -4,7 +4,7 @@ use mathlib.Core.Path.{_≡_, ap, sym, _∙_}
 use mathlib.Core.Bool.{true}
 use mathlib.Core.List.{List, [], _∷_}
 use lib.ListN.{length}
-use Rattle.base.specs.Answer.{Answer, figures, refusal}
+use Rattle.base.specs.Answer.{figures, refusal}
 use Rattle.base.specs.Buffer.{put}
 use Rattle.base.proofs.Choice.{never}
 use Rattle.line.specs.declared.letter.Line.{Line}

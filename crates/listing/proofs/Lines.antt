@@ -1,19 +1,17 @@
 -- Every number of every line of an answer fits its field, and a car's line has at most 56 bytes.
-use Prim.Native.Nat.{ℕ, suc, _+_, _*_, _≤_}
-use mathlib.Core.Path.{_≡_, refl, ap, sym, _∙_}
+use Prim.Native.Nat.{ℕ, _≤_}
+use mathlib.Core.Path.{_≡_, refl}
 use mathlib.Core.Bool.{Bool, true, false, _||_}
-use mathlib.Core.List.{List, [], _∷_, _++_}
-use native.Mathlib.Nat.{le-trans}
+use mathlib.Core.List.{List, [], _∷_}
 use native.Mathlib.Omega.{arith}
-use lib.ListN.{length, length-append}
+use lib.ListN.{length}
 use borrow.Author.Tests.{le-leb}
-use Rattle.base.specs.Answer.{Verdict, accepts, refuses, refuseIf, first, numberOf, Answer, figures, refusal, answer}
+use Rattle.base.specs.Answer.{Verdict, accepts, refuses, refuseIf, first, numberOf, figures, refusal, answer}
 use Rattle.base.specs.Numbers.{member}
 use Rattle.base.specs.Lists.{Each}
 use Rattle.line.specs.declared.letter.Line.{Line}
 use Rattle.line.specs.Letter.{widthOf}
-use Rattle.line.specs.Writing.{lineOf, smallTo}
-use Rattle.line.proofs.Bytes.{length-lineOf}
+use Rattle.line.specs.Writing.{smallTo}
 use Rattle.table.specs.Table.{Table, tablesVerdict}
 use Rattle.table.specs.Capacity.{unknown, levelBad, waterBad}
 use Rattle.table.proofs.Rising.{tables-last-most}
@@ -24,12 +22,10 @@ use Rattle.mass.specs.Steps as steps
 use Rattle.train.specs.declared.Car.{Car}
 use Rattle.train.specs.declared.Train.{Train}
 use Rattle.train.specs.Car.{numberBad, level, rows, carTests, v0, v15, gross, net, sixFigures}
-use Rattle.train.specs.Train.{heldBy, full, headVerdict, enterVerdict, enterAnswer, enterTrain}
-use Rattle.train.specs.Book.{Item}
-use Rattle.train.specs.Demand3.{entered, verdictIn}
-use Rattle.train.proofs.Accepted.{accepted, shows, in-range}
+use Rattle.train.specs.Train.{heldBy, full, headVerdict, enterAnswer}
+use Rattle.train.proofs.Accepted.{accepted, shows}
 use Rattle.train.proofs.Close.{masses-most}
-use Rattle.listing.specs.Listing.{carLine, totalsLine, refusedLine, listingFrom}
+use Rattle.listing.specs.Listing.{carLine, totalsLine, refusedLine}
 use Rattle.listing.specs.Tied.{Small}
 
 -- a refusal number is at most 21

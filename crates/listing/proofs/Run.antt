@@ -16,7 +16,6 @@ use Rattle.table.specs.Table.{Table, tablesVerdict}
 use Rattle.table.proofs.Held.{one-left, none-left}
 use Rattle.train.specs.declared.Train.{Train}
 use Rattle.train.specs.Train.{emptyTrain, enterAnswer, enterTrain}
-use Rattle.train.specs.Book.{Item}
 use Rattle.train.specs.Demand3.{trainFrom}
 use Rattle.train.proofs.Book.{train-low}
 use Rattle.sheet.specs.Held.{carsFrom, carsOf}

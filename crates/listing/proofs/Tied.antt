@@ -4,7 +4,6 @@ use mathlib.Core.Path.{_≡_, refl, ap, sym, _∙_}
 use mathlib.Core.List.{List, [], _∷_}
 use native.Mathlib.Omega.{arith}
 use lib.ListN.{length}
-use lib.Dec.{ltb}
 use borrow.Author.Tests.{lt-ltb, le-ltb}
 use Rattle.base.specs.Answer.{accepts}
 use Rattle.base.specs.Buffer.{put}
@@ -23,9 +22,8 @@ use Rattle.sheet.specs.declared.Outcome.the-variants.{Whole, RefusedAt}
 use Rattle.sheet.specs.Held.{carsOf, told, readIn}
 use Rattle.sheet.specs.Proper.{EachCar, Proper, ProperRefusal, WholeSheet}
 use Rattle.sheet.proofs.Lines.{sheet-proper}
-use Rattle.listing.specs.declared.Reply.{Reply}
-use Rattle.listing.specs.Listing.{carOf, itemsOf, carLine, totalsLine, refusedLine, bytesOf, numberOf, replyOf, afterAnswer}
-use Rattle.listing.specs.Tied.{Small, linesFrom, Listed, Tied}
+use Rattle.listing.specs.Listing.{carOf, itemsOf, totalsLine, refusedLine, bytesOf, numberOf, replyOf, afterAnswer}
+use Rattle.listing.specs.Tied.{Small, linesFrom, Tied}
 use Rattle.listing.proofs.Lines.{car-fit, totals-fit, refused-fit}
 use Rattle.listing.proofs.Run.{number-small, listing-most}
 

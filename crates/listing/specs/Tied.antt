@@ -1,10 +1,9 @@
 -- The listing beside demand 3: a whole sheet's C lines are such a list of cars on its tables, so that S shows the book's count and totals.
-use Prim.Native.Nat.{ℕ}
 use mathlib.Core.Path.{_≡_}
 use mathlib.Core.Bool.{true}
 use mathlib.Core.List.{List, [], _∷_}
 use lib.ListN.{length}
-use Rattle.base.specs.Answer.{accepts, Answer}
+use Rattle.base.specs.Answer.{accepts}
 use Rattle.base.specs.Lists.{Each}
 use Rattle.line.specs.declared.letter.Line.{Line}
 use Rattle.line.specs.Letter.{countOf}
@@ -14,7 +13,7 @@ use Rattle.train.specs.declared.Train.{Train}
 use Rattle.train.specs.Train.{emptyTrain, enterAnswer, enterTrain}
 use Rattle.train.specs.Book.{Item, loads, bookFrom}
 use Rattle.train.specs.Demand3.{trainFrom, Kept}
-use Rattle.sheet.specs.Sheet.{SheetRead, refusedAt, whole, sheetOf}
+use Rattle.sheet.specs.Sheet.{SheetRead, refusedAt, whole}
 use Rattle.listing.specs.Listing.{itemsOf, carLine, totalsLine, refusedLine}
 
 -- no number of the line exceeds 99,999,999, so that no field is cut

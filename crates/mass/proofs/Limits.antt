@@ -11,7 +11,7 @@ use Rattle.base.specs.Lists.{Each}
 use Rattle.base.proofs.Choice.{neither}
 use Rattle.base.proofs.Numbers.{inside}
 use Rattle.mass.specs.Grades.{gradeBad, byGrade, coldest, waterLimits, impurityLimits, temperatureBad, temperatureBadAnyGrade, densityBad, contentBad, contentBadAnyGrade}
-use Rattle.mass.specs.Masses.{DensityInRange, InRange}
+use Rattle.mass.specs.Masses.{DensityInRange}
 
 -- 19
 pub density-in-range : (r : ℕ) → densityBad r ≡ false → DensityInRange r
@@ -47,10 +47,3 @@ content-in-range grade w i g e =
     let water : byGrade waterLimits grade ≤ 100 = of-grade (λ (n : ℕ). n ≤ 100) waterLimits (lit≤ tt, (lit≤ tt, (lit≤ tt, (lit≤ tt, tt)))) refl grade g in
     let impurities : byGrade impurityLimits grade ≤ 100 = of-grade (λ (n : ℕ). n ≤ 100) impurityLimits (lit≤ tt, (lit≤ tt, (lit≤ tt, (lit≤ tt, tt)))) refl grade g in
     omega (arith, ltb-false _ w (h .0), ltb-false _ i (h .1))
-
--- all of them, of a volume that a table can hold
-pub accepted-in-range : (v grade t r w i : ℕ) → v ≤ 20_000_000 → gradeBad grade ≡ false → temperatureBad grade t ≡ false → densityBad r ≡ false
-    → contentBad grade w i ≡ false → InRange v t r w i
-accepted-in-range v grade t r w i full e13 e18 e19 e20 =
-    let h = temperature-in-range grade t e13 e18 in
-    record { full = full; warm = h .0; hot = h .1; density = density-in-range r e19; oil = content-in-range grade w i e13 e20 }

@@ -6,18 +6,14 @@ use native.Mathlib.Nat.{add-zero, zero-add}
 use native.Mathlib.Numerals.{add-one}
 use native.Mathlib.Omega.{arith}
 use lib.ListN.{length, getD, set, take, drop}
-use lib.Seq.{drop-cons, getD-set-same, getD-set-other, take-at, drop-at, take-add, take-take, take-append-le, take-all, length-take-le, getD-take, getD-drop, paste}
-use mathlib.Core.Logic.{⊎-elim}
+use lib.Seq.{drop-cons, getD-set-same, getD-set-other, take-at, drop-at, take-add, take-take, take-append-le, take-all, length-take-le, paste}
 use Rattle.base.specs.Buffer.{put}
-use Rattle.base.proofs.Choice.{same}
-use Rattle.line.proofs.Bytes.{small-at}
 use Rattle.base.proofs.Buffer.{length-put}
 use Rattle.table.specs.Table.{Row, Table, laterBad}
 use Rattle.table.specs.Held.{rowOf, rowsFrom, tableAt, tablesFrom}
 use Rattle.sheet.specs.declared.Head.{Head}
 use Rattle.sheet.specs.Sheet.{dueBy, dueOf, kinds, lastRows, rowBad, withRow}
 use Rattle.sheet.specs.Held.{carsFrom, stateIn}
-use Rattle.sheet.specs.Proper.{CarNumbers, EachCar}
 use Rattle.sheet.specs.Underway.{Stored}
 
 -- The last of a list.
@@ -167,21 +163,6 @@ pub due-held : (h : Head) (l c f : List ℕ) → dueBy (h .owed) (h .directory .
 due-held h l c f =
     sym (ap (λ (n : ℕ). dueBy (h .owed) n (length (carsFrom f 0 (h .cars)))) (length-tables (h .directory .types) (h .directory .rows) l c 0 (h .directory .count))
     ∙ ap (dueBy (h .owed) (h .directory .count)) (length-cars f 0 (h .cars)))
-
--- each number of each car
-car-each : (f : List ℕ) (i n : ℕ) → EachCar (carsFrom f i n) → (j : ℕ) → i ≤ j → j < i + n → CarNumbers (take 14 (drop (14 * j) f))
-car-each f i zero e j a b = absurd (omega arith)
-car-each f i (suc n) e j a b =
-    ⊎-elim
-    (λ (q : i ≡ j). rw q at (e .0))
-    (λ (q : i ≡ j → ⊥). let m : i < j = omega arith in car-each f (i + 1) n (e .1) j (omega arith) (omega arith))
-    (same i j)
-
-pub car-small : (f : List ℕ) (n j k : ℕ) → EachCar (carsFrom f 0 n) → j < n → k < 14 → getD f (14 * j + k) 0 ≤ 99_999_999
-car-small f n j k e h i =
-    let c = car-each f 0 n e j (omega arith) (omega arith) in
-    let m : getD (take 14 (drop (14 * j) f)) k 0 ≤ 99_999_999 = small-at (take 14 (drop (14 * j) f)) 14 (c .small) k i in
-    rw (getD-take 14 (drop (14 * j) f) k 0 i, getD-drop (14 * j) f k 0) at m
 
 cars-same : (f f′ : List ℕ) (i n : ℕ) → ((j : ℕ) → j < i + n → take 14 (drop (14 * j) f′) ≡ take 14 (drop (14 * j) f)) → carsFrom f′ i n ≡ carsFrom f i n
 cars-same f f′ i zero h = refl

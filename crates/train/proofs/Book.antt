@@ -1,5 +1,5 @@
 -- For every list of cars from the empty train: each is answered as the book has it, and the train's count and totals are those of the book.
-use Prim.Native.Nat.{ℕ, zero, suc, _+_, _*_, _≤_, _<_}
+use Prim.Native.Nat.{ℕ, suc, _+_, _*_, _≤_, _<_}
 use mathlib.Core.Path.{_≡_, refl, sym, ap, ap₂, _∙_}
 use mathlib.Core.Bool.{Bool, true, false, cond, _||_}
 use mathlib.Core.List.{List, [], _∷_, _++_, map, append-assoc, append-nil}
@@ -7,24 +7,24 @@ use native.Mathlib.Nat.{add-zero, zero-add}
 use native.Mathlib.Numerals.{add-one}
 use native.Mathlib.Omega.{arith}
 use borrow.Author.Tests.{le-ltb, leb-false}
-use lib.Dec.{leb, ltb}
+use lib.Dec.{leb}
 use lib.ListN.{length, take, set, length-set, length-append}
 use lib.Seq.{take-suc-set}
-use Rattle.base.specs.Answer.{Verdict, accepts, refuses, refuseIf, first, Answer, figures, refusal, answer}
+use Rattle.base.specs.Answer.{Verdict, accepts, refuses, refuseIf, first, Answer, answer}
 use Rattle.base.specs.Fraction.{Frac, _+ᶠ_, Within}
 use Rattle.base.specs.Numbers.{member}
 use Rattle.base.specs.Lists.{Each}
 use Rattle.base.proofs.Choice.{never}
-use Rattle.table.specs.Table.{Table, tablesVerdict}
+use Rattle.table.specs.Table.{tablesVerdict}
 use Rattle.mass.specs.Exact.{Power}
 use Rattle.mass.specs.Distance.{grossRoom, netRoom}
 use Rattle.mass.specs.Total.{total, totalˣ, selected}
 use Rattle.mass.proofs.Total.{each-selected, total-within, total-same}
 use Rattle.train.specs.declared.Car.{Car}
 use Rattle.train.specs.declared.Train.{Train}
-use Rattle.train.specs.Car.{numberBad, carTests, gross, net, sixFigures}
+use Rattle.train.specs.Car.{numberBad, gross, net, sixFigures}
 use Rattle.train.specs.Exact.{grossˣ, netˣ}
-use Rattle.train.specs.Train.{emptyTrain, heldBy, full, headVerdict, enterVerdict, enterAnswer, withNumber, withMasses, afterBy, enterTrain}
+use Rattle.train.specs.Train.{emptyTrain, heldBy, full, headVerdict, enterAnswer, withNumber, withMasses, afterBy, enterTrain}
 use Rattle.train.specs.Book.{Item, Load, Entry, alone, loaded, numberIn, loads, bookHead, bookOwn, bookVerdict, loadOf, entryBy, bookStep, bookFrom, verdictsFrom}
 use Rattle.train.specs.Demand3.{verdictIn, trainFrom, answersFrom, Shown, shown, Near, Kept, Continues}
 use Rattle.train.proofs.Close.{masses-most, masses-near}

@@ -1,5 +1,5 @@
 -- The rack card's figures, computed from the definitions.
-use mathlib.Core.Path.{_≡_, refl}
+use mathlib.Core.Path.{refl}
 use Rattle.base.specs.Rounding.{rounded}
 use Rattle.level.specs.Level.{meanLevel, unusedBad, disagree, readingsTests, meanLevelAnswer}
 use Rattle.level.specs.Tape.{allowanceAnswer}

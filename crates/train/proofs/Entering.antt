@@ -16,7 +16,7 @@ use Rattle.train.specs.declared.CarAnswer.{CarAnswer}
 use Rattle.train.specs.declared.CarAnswer.the-variants.{Accepted, Refused}
 use Rattle.train.specs.declared.Train.{Train}
 use Rattle.train.specs.Car.{numberBad, carTests, gross, net, sixFigures, ownAnswer, told}
-use Rattle.train.specs.Train.{heldBy, full, trainTests, headVerdict, enterVerdict, enterAnswer, withAnswer, withNumber, withMasses, afterBy, enterTrain, Open}
+use Rattle.train.specs.Train.{heldBy, full, trainTests, headVerdict, enterAnswer, withAnswer, afterBy, enterTrain, Open}
 
 -- a train is open exactly where 9 does not apply
 pub open-not-full : (t : Train) → Open t → full t ≡ false

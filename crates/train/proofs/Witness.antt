@@ -1,22 +1,20 @@
 -- That demand 3 speaks of something: a list of cars of every kind with its book written out, and two cars that the filling order compares.
 use Prim.Native.Nat.{ℕ, zero, suc, _+_}
 use mathlib.Core.Path.{_≡_, refl}
-use mathlib.Core.List.{List, [], _∷_, _++_, map}
-use lib.ListN.{length, replicate}
-use lib.Dec.{lit≤}
-use Rattle.base.specs.Answer.{Verdict, accepts, refuses, Answer, figures, refusal}
+use mathlib.Core.List.{List, [], _∷_, _++_}
+use lib.ListN.{replicate}
+use Rattle.base.specs.Answer.{accepts, refuses}
 use Rattle.base.specs.Rounding.{rounded}
-use Rattle.level.specs.Level.{meanLevel, unusedBad, disagree, readingsTests}
-use Rattle.table.specs.Table.{Table}
+use Rattle.level.specs.Level.{meanLevel, unusedBad, disagree}
 use Rattle.table.specs.Capacity.{linear, capacityAt}
 use Rattle.table.specs.Capacity as capacity
 use Rattle.mass.specs.Steps as steps
 use Rattle.train.specs.declared.Car.{Car}
 use Rattle.train.specs.Car.{level, carTests, aloneVerdict, aloneAnswer, v0, v15, gross, net}
 use Rattle.train.specs.Train.{emptyTrain, full, headVerdict, enterTrain}
-use Rattle.train.specs.Book.{Item, Entry, alone, loaded, numberIn, bookHead, bookFrom, verdictsFrom, loadOf}
+use Rattle.train.specs.Book.{Item, Entry, alone, loaded, bookHead, bookFrom, verdictsFrom, loadOf}
 use Rattle.train.specs.Card.{cardTables, cardCar}
-use Rattle.train.specs.Demand3.{verdictIn, trainFrom, answersFrom, SameTable, Alike}
+use Rattle.train.specs.Demand3.{verdictIn, trainFrom, SameTable, Alike}
 
 -- a car of the rack card on its tables, with a number and a temperature in 0.1 °C
 car : ℕ → ℕ → Item

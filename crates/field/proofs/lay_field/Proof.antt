@@ -2,7 +2,7 @@
 use Rattle.field.proofs.Writing.{write-last, write-turn, write-ended}
 use borrow.Author.Needs.{needs}
 use Prim.Native.Nat.{_+_, _≤_, _<_}
-use mathlib.Core.Path.{_≡_, refl, sym, ap, _∙_}
+use mathlib.Core.Path.{_≡_, refl, _∙_}
 use native.Mathlib.Omega.{arith}
 use Rattle.base.specs.Buffer.{put}
 use lib.ListN.{length, length-set}

@@ -1,5 +1,5 @@
 -- `field::write_field` meets its contract: what does not fit leaves the buffer as lent, and `lay_field` writes the rest.
-use mathlib.Core.Path.{_≡_, sym, _∙_}
+use mathlib.Core.Path.{sym, _∙_}
 use native.Mathlib.Omega.{arith}
 use borrow.Author.Needs.{needs}
 use denote.Ref.{now}

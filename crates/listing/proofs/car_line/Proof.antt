@@ -1,5 +1,5 @@
 -- `listing::car_line` meets its contract, by the two cases of the answer.
-use mathlib.Core.Path.{_≡_, sym, ap}
+use mathlib.Core.Path.{sym, ap}
 use Rattle.train.specs.declared.CarAnswer.{CarAnswer}
 use Rattle.train.specs.Car.{told}
 use Rattle.listing.specs.Listing.{carLine}

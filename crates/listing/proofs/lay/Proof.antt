@@ -1,6 +1,6 @@
 -- `listing::lay` meets its contract: a line that has room is written.
 use Prim.Native.Nat.{_+_}
-use mathlib.Core.Path.{_≡_, sym, ap, _∙_}
+use mathlib.Core.Path.{ap, _∙_}
 use native.Mathlib.Omega.{arith}
 use denote.Ref.{now}
 use Rattle.listing.proofs.Laying.{laid-width, never-refused, laid-bytes, fits}

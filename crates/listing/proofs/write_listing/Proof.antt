@@ -1,16 +1,14 @@
 -- `listing::write_listing` meets its contract: each turn writes a car's line, and S comes last.
 use Prim.Native.Nat.{_-_, _*_}
-use mathlib.Core.Path.{_≡_, sym, ap, _∙_}
+use mathlib.Core.Path.{_≡_, ap, _∙_}
 use mathlib.Core.List.{List}
 use native.Mathlib.Omega.{arith}
 use lib.ListN.{take, drop}
 use borrow.Author.Needs.{needs}
 use denote.Ref.{now}
-use Rattle.base.specs.Answer.{Answer, accepts}
-use Rattle.table.specs.Table.{Table, tablesVerdict}
+use Rattle.table.specs.Table.{Table}
 use Rattle.table.specs.Held.{tablesOf}
 use Rattle.train.specs.declared.Car.{Car}
-use Rattle.train.specs.declared.Train.{Train}
 use Rattle.train.specs.Train.{enterAnswer, enterTrain}
 use Rattle.listing.specs.Listing.{carOf, carLine}
 use Rattle.listing.proofs.Run.{Written, begun, line-room, turn, totals-low, sum-room, ended}

@@ -1,5 +1,5 @@
 -- `line::reading::find_line_at` meets its contract: each return is the line of the definition under the tests before it.
-use mathlib.Core.Path.{_≡_, sym, _∙_}
+use mathlib.Core.Path.{sym, _∙_}
 use Rattle.line.proofs.Lines.{line-none, line-letter, Head, line-length, line-fields, line-read}
 use borrow.Author.Needs.{needs}
 use Rattle.line.proofs.reading.find_line_at.Statement.{statement}

@@ -1,8 +1,6 @@
 -- `line::reading::read_line` meets its contract: the line from the start, which ends at its first line feed and writes back.
-use mathlib.Core.Path.{_≡_, sym}
 use borrow.Author.Needs.{needs}
 use denote.Ref.{now}
-use Rattle.line.specs.RoundTrip.{ReadWritesBack}
 use Rattle.line.proofs.Alone.{ends-at-feed}
 use Rattle.line.proofs.RoundTrip.{read-writes-back}
 use Rattle.line.proofs.reading.read_line.Statement.{statement}

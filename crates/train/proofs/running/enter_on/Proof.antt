@@ -1,5 +1,5 @@
 -- `train::enter_on` meets its contract: the train's refusals first, then the car's own answer.
-use mathlib.Core.Path.{_≡_, sym, _∙_}
+use mathlib.Core.Path.{sym, _∙_}
 use mathlib.Core.List.{List}
 use borrow.Author.Needs.{needs}
 use denote.Ref.{now}
