@@ -1,3 +1,3 @@
 pub mod Sorting
 pub mod Readings
-pub mod Card
+pub mod AgainstCard

@@ -5,4 +5,4 @@ pub mod Order
 pub mod Distance
 pub mod Total
 pub mod Limits
-pub mod Card
+pub mod AgainstCard

@@ -7,7 +7,7 @@ use Rattle.line.specs.declared.letter.Letter.{Letter}
 use Rattle.line.specs.declared.letter.Letter.the-variants.{Table as T, Row as R, Car as C, End as E}
 use Rattle.line.specs.Reading.{letterOf, feed, feedAt, good, values, lineBy, lineAt}
 use Rattle.line.specs.Writing.{fieldsOf, lineOf}
-use Rattle.table.specs.Held.{rowOf}
+use Rattle.table.specs.Table.{rowOf}
 use Rattle.sheet.specs.Sheet.{refusedAt, whole, tableLine, rowLine, carLine, endLine, stepOf, lines, sheetOf}
 
 text : Letter → List ℕ → List ℕ

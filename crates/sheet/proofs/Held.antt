@@ -9,8 +9,8 @@ use lib.ListN.{length, getD, set, take, drop}
 use lib.Seq.{drop-cons, getD-set-same, getD-set-other, take-at, drop-at, take-add, take-take, take-append-le, take-all, length-take-le, paste}
 use Rattle.base.specs.Buffer.{put}
 use Rattle.base.proofs.Buffer.{length-put}
-use Rattle.table.specs.Table.{Row, Table, laterBad}
-use Rattle.table.specs.Held.{rowOf, rowsFrom, tableAt, tablesFrom}
+use Rattle.table.specs.Table.{Row, rowOf, Table, laterBad}
+use Rattle.table.specs.Held.{rowsFrom, tableAt, tablesFrom}
 use Rattle.sheet.specs.declared.Head.{Head}
 use Rattle.sheet.specs.Sheet.{dueBy, dueOf, kinds, lastRows, rowBad, withRow}
 use Rattle.sheet.specs.Held.{carsFrom, stateIn}

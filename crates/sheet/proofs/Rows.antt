@@ -12,8 +12,8 @@ use Rattle.line.specs.declared.reading.Due.{Due}
 use Rattle.line.specs.declared.reading.LineRead.{LineRead}
 use Rattle.line.specs.Reading.{lineAt, rowOnly}
 use Rattle.line.specs.Reading.{rowOf as rowRead}
-use Rattle.table.specs.Table.{Row, Table, laterBad}
-use Rattle.table.specs.Held.{rowOf, rowsFrom, tablesFrom}
+use Rattle.table.specs.Table.{Row, rowOf, Table, laterBad}
+use Rattle.table.specs.Held.{rowsFrom, tablesFrom}
 use Rattle.sheet.specs.declared.Head.{Head}
 use Rattle.sheet.specs.Sheet.{State, past, dueOf, lastRows, rowBad, withRow, byReading, stepOf}
 use Rattle.sheet.specs.Held.{stateIn}

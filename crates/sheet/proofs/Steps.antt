@@ -22,8 +22,7 @@ use Rattle.line.specs.Reading.{refuse as refuseLine}
 use Rattle.line.proofs.Fields.{length-values}
 use Rattle.line.proofs.Lines.{IsLine, is-line}
 use Rattle.line.proofs.RoundTrip.{read-small}
-use Rattle.table.specs.Table.{headBad}
-use Rattle.table.specs.Held.{rowOf}
+use Rattle.table.specs.Table.{rowOf, headBad}
 use Rattle.sheet.specs.Sheet.{longest, mostCars, State, Step, next, over, refuse, dueOf, kinds, lastRows, rowBad, tableLine, rowLine, carLine, endLine, byLetter, byReading, stepOf}
 use Rattle.sheet.specs.Proper.{CarNumbers, EachCar, Proper}
 use Rattle.sheet.specs.Underway.{SoundState}

@@ -1,18 +1,19 @@
 -- The capacity read off rising rows: near the exact one, at most 200,000 dm³, and never falling as the level rises.
 use Prim.Native.Nat.{ℕ, _+_, _*_, _-_, _≤_, _<_}
-use mathlib.Core.Path.{_≡_}
+use mathlib.Core.Path.{_≡_, refl}
 use mathlib.Core.Bool.{cond}
 use mathlib.Core.List.{List, [], _∷_}
 use native.Mathlib.Nat.{zero-mul, mul-zero, zero-sub, mul-le-mul-left, mul-le-mul-right, le-refl, le-trans, le-of-lt, not-le-of-lt, suc-pred-eq-of-pos}
 use native.Mathlib.Omega.{arith}
 use lib.Dec.{leb}
 use borrow.Author.Tests.{leb-true, leb-false, le-leb}
+use Rattle.base.specs.Rounding.{rounded}
 use Rattle.base.specs.Fraction.{whole, _+ᶠ_, _/ᶠ_, _≤ᶠ_}
 use Rattle.base.proofs.Choice.{cond-either}
 use Rattle.base.proofs.Rounding.{round-high, round-low, round-le, le-round, round-mono}
 use Rattle.base.proofs.Fraction.{≤ᶠ-refl, ≤ᶠ-trans, ≤ᶠ-whole, ≤ᶠ-part, ≤ᶠ-more, ≤ᶠ-add, sub-whole}
 use Rattle.base.proofs.Near.{Near, near-sub}
-use Rattle.table.specs.Table.{Row}
+use Rattle.table.specs.Table.{Row, rowOf}
 use Rattle.table.specs.Capacity.{Gap, gapAfter, linear, lastLevel, capacityAt, v0}
 use Rattle.table.specs.Exact.{linearˣ, capacityAtˣ, v0ˣ}
 use Rattle.table.proofs.Rising.{Follows, RisingFrom, Rising}
@@ -178,6 +179,11 @@ unfolding capacityAt
 capacity-zero [] r = absurd r
 capacity-zero (row ∷ []) r = absurd r
 capacity-zero (row ∷ next ∷ rows) (_, c, f) = rw (le-leb 0 (next .level) (omega arith)) (linear-zero _ (f .0) c)
+
+-- each capacity is rounded by itself: 67 less 33, where the difference rounded once is 33
+rounded-twice : v0 (rowOf 0 0 ∷ rowOf 3 1 ∷ []) 2 1 ≡ 34
+unfolding v0 capacityAt linear rounded
+rounded-twice = refl
 
 -- V0, where the water level is not above the mean level
 module _ (rows : List Row) (r : Rising rows) {mean water : ℕ} (p : water ≤ mean) (q : mean ≤ lastLevel rows) where

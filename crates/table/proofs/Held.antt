@@ -13,9 +13,9 @@ use Rattle.base.specs.Answer.{accepts, numberOf}
 use Rattle.base.specs.Numbers.{member}
 use Rattle.base.proofs.Choice.{below, same}
 use Rattle.table.specs.declared.Directory.{Directory}
-use Rattle.table.specs.Table.{Row, rowsVerdict, tablesAfter, tablesVerdict}
+use Rattle.table.specs.Table.{Row, rowOf, rowsVerdict, tablesAfter, tablesVerdict}
 use Rattle.table.specs.Capacity.{unknown}
-use Rattle.table.specs.Held.{rowOf, rowsFrom, tableAt, tablesFrom, tablesOf, Good}
+use Rattle.table.specs.Held.{rowsFrom, tableAt, tablesFrom, tablesOf, Good}
 use Rattle.table.proofs.Table.{proper-tables, next-table}
 
 pub one-left : (e i : ℕ) → i < e → e - i ≡ suc (e - (i + 1))

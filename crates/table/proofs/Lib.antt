@@ -4,4 +4,4 @@ pub mod Rising
 pub mod Capacity
 pub mod Search
 pub mod Answers
-pub mod Card
+pub mod AgainstCard

@@ -12,8 +12,13 @@ use Rattle.base.specs.Numbers.{outside, member}
 use Rattle.base.proofs.Choice.{neither}
 use Rattle.base.proofs.Numbers.{inside}
 use Rattle.base.proofs.Answer.{first-one, accepted-first, accepted-if, Proper, proper-if, proper-first, proper-pass, refused-first}
-use Rattle.table.specs.Table.{Row, Table, headBad, firstBad, laterBad, laterVerdict, rowsVerdict, tablesAfter, tablesVerdict}
+use Rattle.table.specs.Table.{Row, rowOf, Table, headBad, firstBad, laterBad, laterVerdict, rowsVerdict, tablesAfter, tablesVerdict}
 use Rattle.table.specs.Capacity.{unknown, rowsOf}
+
+-- line by line: a bad row of the first table comes before a bad type of the second
+row-before-type :
+    tablesVerdict (record { kind = 1; rows = rowOf 0 0 ∷ rowOf 0 1 ∷ [] } ∷ record { kind = 0; rows = rowOf 0 0 ∷ rowOf 1 1 ∷ [] } ∷ []) ≡ refuses 8
+row-before-type = refl
 
 -- Tables that are passed or not, one by one.
 

@@ -4,14 +4,11 @@ use mathlib.Core.Path.{_≡_}
 use mathlib.Core.List.{List, [], _∷_}
 use lib.ListN.{getD}
 use Rattle.base.specs.Answer.{accepts, Answer, figures, refusal}
-use Rattle.table.specs.Table.{Row, Table, tablesVerdict}
+use Rattle.table.specs.Table.{Row, rowOf, Table, tablesVerdict}
 use Rattle.table.specs.Capacity.{Gap}
 use Rattle.table.specs.declared.Directory.{Directory}
 use Rattle.table.specs.declared.Volume.{Volume}
 use Rattle.table.specs.declared.Volume.the-variants.{Hundredths, Refused}
-
-abbrev pub rowOf : ℕ → ℕ → Row
-rowOf level capacity = record { level = level; capacity = capacity }
 
 abbrev pub gapOf : ℕ → ℕ → ℕ → ℕ → Gap
 gapOf lowLevel lowCapacity highLevel highCapacity = record { low = rowOf lowLevel lowCapacity; high = rowOf highLevel highCapacity }

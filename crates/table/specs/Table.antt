@@ -12,6 +12,9 @@ pub record Row : Type 0 where
   pub level : ℕ
   pub capacity : ℕ
 
+abbrev pub rowOf : ℕ → ℕ → Row
+rowOf level capacity = record { level = level; capacity = capacity }
+
 -- a table's type and its rows
 pub record Table : Type 0 where
   pub kind : ℕ

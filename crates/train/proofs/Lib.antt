@@ -4,5 +4,5 @@ pub mod Close
 pub mod Order
 pub mod Book
 pub mod Entering
-pub mod Card
+pub mod AgainstCard
 pub mod Witness

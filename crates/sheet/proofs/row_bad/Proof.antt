@@ -3,7 +3,8 @@ use Prim.Native.Nat.{ℕ}
 use mathlib.Core.Path.{ap, sym, _∙_}
 use native.Mathlib.Omega.{arith}
 use denote.Ref.{now}
-use Rattle.table.specs.Held.{rowOf, rowsFrom}
+use Rattle.table.specs.Table.{rowOf}
+use Rattle.table.specs.Held.{rowsFrom}
 use Rattle.sheet.specs.Sheet.{rowBad}
 use Rattle.sheet.proofs.Held.{row-later}
 use borrow.Author.Needs.{needs}

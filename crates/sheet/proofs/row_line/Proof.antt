@@ -5,8 +5,7 @@ use mathlib.Core.List.{List}
 use native.Mathlib.Omega.{arith}
 use denote.Ref.{now}
 use lib.ListN.{length}
-use Rattle.table.specs.Table.{Row}
-use Rattle.table.specs.Held.{rowOf}
+use Rattle.table.specs.Table.{Row, rowOf}
 use Rattle.sheet.specs.Sheet.{lastRows, rowBad}
 use Rattle.sheet.specs.Held.{stateIn}
 use Rattle.sheet.proofs.Held.{rows-held, row-more}

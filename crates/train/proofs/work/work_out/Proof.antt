@@ -14,7 +14,7 @@ use Rattle.train.specs.declared.Car.{Car}
 use Rattle.train.specs.Car.{numberBad, aloneAnswer, told}
 use Rattle.train.specs.Demand3.{Close, InOrder, alone}
 use Rattle.train.specs.Card.{AllRight}
-use Rattle.train.proofs.Card.{all-right}
+use Rattle.train.proofs.AgainstCard.{all-right}
 use Rattle.train.proofs.Close.{close}
 use Rattle.train.proofs.Order.{in-order}
 use Rattle.train.proofs.Tests.{alone-tables, alone-number, alone-own}

@@ -2,10 +2,9 @@
 use mathlib.Core.Path.{_≡_, refl}
 use mathlib.Core.List.{List, [], _∷_}
 use Rattle.base.specs.Rounding.{rounded}
-use Rattle.base.specs.Answer.{accepts, refuses, figures, refusal}
-use Rattle.table.specs.Table.{Row, Table, tablesVerdict}
+use Rattle.base.specs.Answer.{accepts, figures, refusal}
+use Rattle.table.specs.Table.{Row, rowOf, Table, tablesVerdict}
 use Rattle.table.specs.Capacity.{linear, capacityAt, v0, volumeAnswer}
-use Rattle.table.specs.Held.{rowOf}
 
 abbrev card : List Row
 card = rowOf 0 0 ∷ rowOf 1_000 20_000 ∷ rowOf 2_000 50_000 ∷ rowOf 3_000 70_000 ∷ []
@@ -48,13 +47,3 @@ water-1501 = refl
 type-2 : volumeAnswer tables 2 1_500 0 ≡ refusal 12
 unfolding volumeAnswer
 type-2 = refl
-
--- Beside the card: each capacity is rounded by itself, 67 less 33, where the difference rounded once is 33.
-rounded-twice : v0 (rowOf 0 0 ∷ rowOf 3 1 ∷ []) 2 1 ≡ 34
-unfolding v0 capacityAt linear rounded
-rounded-twice = refl
-
--- a bad row of the first table comes before a bad type of the second
-line-by-line :
-    tablesVerdict (record { kind = 1; rows = rowOf 0 0 ∷ rowOf 0 1 ∷ [] } ∷ record { kind = 0; rows = card } ∷ []) ≡ refuses 8
-line-by-line = refl

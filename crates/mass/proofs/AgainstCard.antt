@@ -14,6 +14,7 @@ use Rattle.mass.specs.Steps.{wall}
 use Rattle.mass.specs.Grades.{temperatureBad}
 use Rattle.mass.specs.Answers.{expansionAnswer, factorAnswer, density20Answer, gradeDensity20Answer, gradeOilAnswer}
 use Rattle.mass.specs.Masses.{InRange}
+use Rattle.mass.specs.Total.{total}
 
 -- B and X at 9,500; Vt, V15, gross and net of V0 3,500,000 with a steel stick at 60 °C, water 50 and impurities 20
 abbrev pub numbers : List ℕ
@@ -25,6 +26,16 @@ numbers =
 pub numbers-right : numbers ≡ 718_937 ∷ 331_894_951 ∷ 3_507_000 ∷ 3_392_515 ∷ 32_229 ∷ 32_003 ∷ []
 unfolding wall Steps.expansion Steps.exponent Steps.term Steps.series Steps.factor Steps.hotVolume Steps.coldVolume Steps.gross Steps.net Steps.volume15Of Steps.grossOf Steps.netOf rounded
 numbers-right = refl
+
+-- Beside the card: net is taken from the gross as shown, where 0.993 of 32,229.111 kg would be 32,004.
+net-of-shown : Steps.netOf 3_500_024 (wall 1) 600 9_500 50 20 ≡ 32_003
+unfolding wall Steps.expansion Steps.exponent Steps.term Steps.series Steps.factor Steps.hotVolume Steps.coldVolume Steps.gross Steps.net Steps.volume15Of Steps.grossOf Steps.netOf rounded
+net-of-shown = refl
+
+-- a total is over the whole list
+total-of-two : total (λ (m : ℕ). m) (32_229 ∷ 32_230 ∷ []) ≡ 64_459
+unfolding total
+total-of-two = refl
 
 -- E at 60 °C, B of an exact half, the density at 20 °C and the limits
 abbrev pub answers : List Answer
