@@ -1,100 +1,140 @@
--- Laws of verdicts: the first of a list of tests, a verdict and its number, an answer and what it was made of.
-use Prim.Native.Nat.{ℕ, _<_}
-use mathlib.Core.Path.{_≡_, refl, ap, sym}
-use mathlib.Core.Bool.{Bool, true, false}
+-- Laws of tests: the first of a list that applies, a verdict and its number, an answer and what it was made of.
+use Prim.Native.Nat.{ℕ, _≤_, _<_}
+use mathlib.Core.Path.{_≡_, refl, ap, sym, _∙_}
+use mathlib.Core.Bool.{Bool, true, false, cond, true≢false}
 use mathlib.Core.List.{List, [], _∷_, _++_}
 use native.Mathlib.Omega.{arith}
-use Rattle.base.specs.Answer.{Verdict, accepts, refuses, refuseIf, first, numberOf, figures, refusal, answer}
-use Rattle.base.specs.Lists.{Each}
+use lib.Dec.{eqb}
+use Rattle.base.specs.Answer.{Test, refuseIf, lastRefusal, Verdict, accepts, refuses, first, numberOf, firstNumber, figures, refusal, answer}
+use Rattle.base.specs.Numbers.{outside}
 use Rattle.base.proofs.Choice.{never}
+use Rattle.base.proofs.Numbers.{inside}
 
--- One test, and the number that the code hands on, which is 0 for no refusal.
+-- One computed test over a list of tests: each has the number of a refusal, which is neither 0 nor above the last.
 
-pub accepted-if : (n : ℕ) (b : Bool) → refuseIf n b ≡ accepts → b ≡ false
-accepted-if n true e = never (cc)
-accepted-if n false e = refl
+abbrev pub numbered : List Test → Bool
+numbered [] = true
+numbered (t ∷ ts) = cond (outside 1 lastRefusal (t .number)) false (numbered ts)
 
-pub applies : {k : ℕ} (n : ℕ) (test : Bool) → k ≡ numberOf (refuseIf n test) → (k ≡ 0 → ⊥) → (test ≡ true) × (k ≡ n)
-applies n true e h = (refl, e)
-applies n false e h = absurd (h e)
+-- What it gives, and that lists of such tests make one.
 
-pub passes : {k : ℕ} (n : ℕ) (test : Bool) → k ≡ numberOf (refuseIf n test) → k ≡ 0 → 0 < n → test ≡ false
-passes n true e z p = absurd (omega arith)
-passes n false e z p = refl
+numbered-parts : (t : Test) (ts : List Test) → numbered (t ∷ ts) ≡ true → ((1 ≤ t .number) × (t .number ≤ lastRefusal)) × (numbered ts ≡ true)
+numbered-parts t ts e = go (outside 1 lastRefusal (t .number)) refl e
+  where
+    go : (b : Bool) → outside 1 lastRefusal (t .number) ≡ b → cond b false (numbered ts) ≡ true → ((1 ≤ t .number) × (t .number ≤ lastRefusal)) × (numbered ts ≡ true)
+    go true f e = absurd (true≢false (sym e))
+    go false f e = (inside 1 lastRefusal (t .number) f, e)
+
+pub numbered-append : (ts us : List Test) → numbered ts ≡ true → numbered us ≡ true → numbered (ts ++ us) ≡ true
+numbered-append [] us e f = f
+numbered-append (t ∷ ts) us e f = go (λ g. numbered-append ts us g f) (outside 1 lastRefusal (t .number)) e
+  where
+    go : (numbered ts ≡ true → numbered (ts ++ us) ≡ true) → (b : Bool) → cond b false (numbered ts) ≡ true → cond b false (numbered (ts ++ us)) ≡ true
+    go later true e = e
+    go later false e = later e
+
+-- The first test that applies is looked up by its number, wherever it stands in the list.
+
+-- whether the test of the number applies; false where there is none
+abbrev pub applied : ℕ → List Test → Bool
+applied n [] = false
+applied n (t ∷ ts) = cond (eqb (t .number) n) (t .applies) (applied n ts)
+
+-- where no test applies, that of the number does not
+pub not-applied : (n : ℕ) (ts : List Test) → first ts ≡ accepts → applied n ts ≡ false
+not-applied n [] e = refl
+not-applied n (t ∷ ts) e = go (not-applied n ts) (t .applies) e (eqb (t .number) n)
+  where
+    go : (first ts ≡ accepts → applied n ts ≡ false) → (b : Bool) → cond b (refuses (t .number)) (first ts) ≡ accepts → (c : Bool) → cond c b (applied n ts) ≡ false
+    go later true e c = never (cc)
+    go later false e true = refl
+    go later false e false = later e
+
+-- A verdict and the number that the code hands on, which is 0 for no refusal.
 
 -- a number that is not 0 is that of a refusal
 pub by-number : (v : Verdict) {k : ℕ} → k ≡ numberOf v → (k ≡ 0 → ⊥) → v ≡ refuses k
 by-number accepts e n = absurd (n e)
 by-number (refuses m) e n = ap refuses (sym e)
 
--- The first of a list.
+-- of numbered tests 0 means that none applies
+pub passed : (ts : List Test) → numbered ts ≡ true → {k : ℕ} → k ≡ firstNumber ts → k ≡ 0 → first ts ≡ accepts
+passed [] n e z = refl
+passed (t ∷ ts) n {k} e z = let p = numbered-parts t ts n in go (λ f. passed ts (p .1) f z) (t .applies) (p .0 .0) e
+  where
+    go : (k ≡ firstNumber ts → first ts ≡ accepts) → (b : Bool) → 1 ≤ t .number → k ≡ numberOf (cond b (refuses (t .number)) (first ts)) → cond b (refuses (t .number)) (first ts) ≡ accepts
+    go later true p e = absurd (omega arith)
+    go later false p e = later e
 
-pub first-one : (v : Verdict) → first (v ∷ []) ≡ v
-first-one accepts = refl
-first-one (refuses n) = refl
+-- and no refusal of theirs is above the last
+pub number-most : (ts : List Test) → numbered ts ≡ true → {k : ℕ} → first ts ≡ refuses k → k ≤ lastRefusal
+number-most [] n e = never (cc)
+number-most (t ∷ ts) n {k} e = let p = numbered-parts t ts n in go (number-most ts (p .1)) (t .applies) (p .0 .1) e
+  where
+    go : (first ts ≡ refuses k → k ≤ lastRefusal) → (b : Bool) → t .number ≤ lastRefusal → cond b (refuses (t .number)) (first ts) ≡ refuses k → k ≤ lastRefusal
+    go later true p e = let q : t .number ≡ k = cc in omega arith
+    go later false p e = later e
 
--- a test that does not apply is passed over
-pub pass : (n : ℕ) (b : Bool) (v : Verdict) → b ≡ false → first (refuseIf n b ∷ v ∷ []) ≡ v
-pass n b v e = rw e (first-one v)
+-- One test alone.
 
--- a refusal is the first of any list that it begins
-pub refused-first : (v : Verdict) (vs : List Verdict) → (numberOf v ≡ 0 → ⊥) → first (v ∷ vs) ≡ refuses (numberOf v)
-refused-first accepts vs n = absurd (n refl)
-refused-first (refuses n) vs h = refl
+module _ (n : ℕ) (b : Bool) where
+  pub alone-applies : {k : ℕ} → k ≡ firstNumber (refuseIf n b ∷ []) → (k ≡ 0 → ⊥) → b ≡ true
+  alone-applies {k} e h = go b e
+    where
+      go : (b : Bool) → k ≡ numberOf (cond b (refuses n) accepts) → b ≡ true
+      go true e = refl
+      go false e = absurd (h e)
 
--- where the first of a list is no refusal, none in it is
-pub accepted-first : (v : Verdict) (vs : List Verdict) → first (v ∷ vs) ≡ accepts → (v ≡ accepts) × (first vs ≡ accepts)
-accepted-first accepts vs e = (refl, e)
-accepted-first (refuses n) vs e = never (cc)
-
-pub all-accept : (vs : List Verdict) → first vs ≡ accepts → Each (λ v. v ≡ accepts) vs
-all-accept [] e = tt
-all-accept (v ∷ vs) e = let p = accepted-first v vs e in (p .0, all-accept vs (p .1))
-
--- a test and what follows it
-pub accepted-pass : (n : ℕ) (b : Bool) (v : Verdict) → first (refuseIf n b ∷ v ∷ []) ≡ accepts → (b ≡ false) × (v ≡ accepts)
-accepted-pass n b v e =
-    let p = accepted-first (refuseIf n b) (v ∷ []) e in
-    (accepted-if n b (p .0), accepted-first v [] (p .1) .0)
+  pub alone-passes : {k : ℕ} → k ≡ firstNumber (refuseIf n b ∷ []) → k ≡ 0 → 0 < n → b ≡ false
+  alone-passes {k} e z p = go b e
+    where
+      go : (b : Bool) → k ≡ numberOf (cond b (refuses n) accepts) → b ≡ false
+      go true e = absurd (omega arith)
+      go false e = refl
 
 -- A list of tests and those that follow it.
 
--- a refusal stands, whatever tests follow
-pub refuses-append : (vs ws : List Verdict) {n : ℕ} → first vs ≡ refuses n → first (vs ++ ws) ≡ refuses n
-refuses-append [] ws e = never (cc)
-refuses-append (accepts ∷ vs) ws e = refuses-append vs ws e
-refuses-append (refuses m ∷ vs) ws e = e
+-- a verdict, and the next where it refuses nothing
+abbrev pub followed : Verdict → Verdict → Verdict
+followed accepts w = w
+followed (refuses n) w = refuses n
 
--- so does one that is known by its number
-pub refused-append : (vs ws : List Verdict) {k : ℕ} → k ≡ numberOf (first vs) → (k ≡ 0 → ⊥) → first (vs ++ ws) ≡ refuses k
-refused-append vs ws e n = refuses-append vs ws (by-number (first vs) e n)
+pub first-append : (ts us : List Test) → first (ts ++ us) ≡ followed (first ts) (first us)
+first-append [] us = refl
+first-append (t ∷ ts) us = go (first-append ts us) (t .applies)
+  where
+    go : first (ts ++ us) ≡ followed (first ts) (first us)
+        → (b : Bool) → cond b (refuses (t .number)) (first (ts ++ us)) ≡ followed (cond b (refuses (t .number)) (first ts)) (first us)
+    go later true = refl
+    go later false = later
 
--- tests that refuse nothing leave it to those that follow
-pub accepted-append : (vs ws : List Verdict) → first vs ≡ accepts → first (vs ++ ws) ≡ first ws
-accepted-append [] ws e = refl
-accepted-append (accepts ∷ vs) ws e = accepted-append vs ws e
-accepted-append (refuses m ∷ vs) ws e = never (cc)
+module _ (us : List Test) where
+  -- a refusal stands, whatever tests follow
+  pub refuses-append : (ts : List Test) {k : ℕ} → first ts ≡ refuses k → first (ts ++ us) ≡ refuses k
+  refuses-append ts e = first-append ts us ∙ ap (λ (v : Verdict). followed v (first us)) e
 
--- The number 0 stands for no refusal.
+  -- so does one that is known by its number
+  pub refused-append : (ts : List Test) {k : ℕ} → k ≡ firstNumber ts → (k ≡ 0 → ⊥) → first (ts ++ us) ≡ refuses k
+  refused-append ts e n = refuses-append ts (by-number (first ts) e n)
 
-abbrev pub Proper : Verdict → Type 0
-Proper v = numberOf v ≡ 0 → v ≡ accepts
+  -- tests that refuse nothing leave it to those that follow
+  pub accepted-append : (ts : List Test) → first ts ≡ accepts → first (ts ++ us) ≡ first us
+  accepted-append ts e = first-append ts us ∙ ap (λ (v : Verdict). followed v (first us)) e
 
-pub proper-if : (n : ℕ) (b : Bool) → 0 < n → Proper (refuseIf n b)
-proper-if n true p e = absurd (omega arith)
-proper-if n false p e = refl
+  -- where none of all applies, none of either part does
+  pub accepted-parts : (ts : List Test) → first (ts ++ us) ≡ accepts → (first ts ≡ accepts) × (first us ≡ accepts)
+  accepted-parts ts e = go (first ts) refl (sym (first-append ts us) ∙ e)
+    where
+      go : (v : Verdict) → first ts ≡ v → followed v (first us) ≡ accepts → (first ts ≡ accepts) × (first us ≡ accepts)
+      go accepts f e = (f, e)
+      go (refuses n) f e = never (cc)
 
--- one more test in front
-pub proper-first : (v : Verdict) (vs : List Verdict) → Proper v → Proper (first vs) → Proper (first (v ∷ vs))
-proper-first accepts vs p q = q
-proper-first (refuses n) vs p q = p
+  -- the same of numbers handed on
+  pub number-stops : (ts : List Test) {k : ℕ} → k ≡ firstNumber ts → (k ≡ 0 → ⊥) → k ≡ firstNumber (ts ++ us)
+  number-stops ts e n = sym (ap numberOf (refused-append ts e n))
 
-pub proper-pass : (n : ℕ) (b : Bool) (v : Verdict) → 0 < n → Proper v → Proper (first (refuseIf n b ∷ v ∷ []))
-proper-pass n b v p q = proper-first (refuseIf n b) (v ∷ []) (proper-if n b p) (proper-first v [] q (λ e. refl))
-
-pub proper-each : (vs : List Verdict) → Each Proper vs → Proper (first vs)
-proper-each [] ps = λ e. refl
-proper-each (v ∷ vs) (p, ps) = proper-first v vs p (proper-each vs ps)
+  pub number-goes-on : (ts : List Test) → numbered ts ≡ true → {k m : ℕ} → k ≡ firstNumber ts → k ≡ 0 → m ≡ firstNumber us → m ≡ firstNumber (ts ++ us)
+  number-goes-on ts n e z f = f ∙ sym (ap numberOf (accepted-append ts (passed ts n e z)))
 
 -- What an answer was made of.
 

@@ -7,3 +7,5 @@ pub mod Rounding
 pub mod Fraction
 pub mod Near
 pub mod Buffer
+pub mod Lists
+pub mod Total

@@ -29,10 +29,6 @@ pub le-round : {n d : ℕ} (k : ℕ) → 0 < d → k * d ≤ n → k ≤ rounded
 unfolding rounded
 le-round {n} {d} k p h = le-div-iff-mul-le {k = 2 * d} (omega arith) .1 (omega arith)
 
--- a whole quotient is not changed
-pub round-exact : (k : ℕ) {d : ℕ} → 0 < d → rounded (k * d) d ≡ k
-round-exact k {d} p = le-antisymm (round-le k p (le-refl (k * d))) (le-round k p (le-refl (k * d)))
-
 -- The two ways in which a rest beside a whole quotient is rounded.
 
 module _ (n d : ℕ) (p : 0 < d) where

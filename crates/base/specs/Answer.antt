@@ -1,27 +1,36 @@
--- Verdicts and answers in document 01's terms: the first refusal that applies, in the listed order, or the figures.
+-- Tests, verdicts and answers in document 01's terms: the first refusal that applies, in the listed order, or the figures.
 use Prim.Native.Nat.{ℕ}
-use mathlib.Core.Bool.{Bool, true, false}
+use mathlib.Core.Bool.{Bool, cond}
 use mathlib.Core.List.{List, [], _∷_}
+
+-- a test: the number of a refusal, and whether it applies
+pub record Test : Type 0 where
+  pub number : ℕ
+  pub applies : Bool
+
+abbrev pub refuseIf : ℕ → Bool → Test
+refuseIf n b = record { number = n; applies = b }
+
+-- the last number of the list of refusals
+abbrev pub lastRefusal : ℕ
+lastRefusal = 22
 
 pub data Verdict : Type 0 where
   accepts : Verdict
   refuses : ℕ → Verdict
 
--- refusal n where its test applies
-abbrev pub refuseIf : ℕ → Bool → Verdict
-refuseIf n true = refuses n
-refuseIf n false = accepts
-
--- the first refusal of a list of tests
-abbrev pub first : List Verdict → Verdict
+-- the first test of a list that applies
+abbrev pub first : List Test → Verdict
 first [] = accepts
-first (accepts ∷ vs) = first vs
-first (refuses n ∷ vs) = refuses n
+first (t ∷ ts) = cond (t .applies) (refuses (t .number)) (first ts)
 
 -- a verdict as the code hands it on: the refusal's number, 0 where there is none
 abbrev pub numberOf : Verdict → ℕ
 numberOf accepts = 0
 numberOf (refuses n) = n
+
+abbrev pub firstNumber : List Test → ℕ
+firstNumber ts = numberOf (first ts)
 
 -- what an operation answers: its figures, or a refusal
 pub data Answer : Type 0 where

@@ -1,9 +1,18 @@
-// What every other crate stands on: R of document 01, a number widened with its bound, and a search.
+// What every other crate stands on: R of document 01, a number widened with its bound, a search, and the limits.
 ghost use mathlib.Core.Path.{_≡_};
-ghost use Prim.Native.Nat.{min};
 ghost use lib.ListN.{take};
 ghost use Rattle.base.specs.Rounding.{rounded};
 ghost use Rattle.base.specs.Numbers.{Wide, member};
+
+mod limits;
+
+pub use limits::GREATEST_CAPACITY;
+pub use limits::HIGHEST_LEVEL;
+pub use limits::LARGEST;
+pub use limits::LEVEL_UNITS;
+pub use limits::MOST_CARS;
+pub use limits::MOST_ROWS;
+pub use limits::MOST_TABLES;
 
 // R(n / d): to the nearest whole number, a half going up; 0 where d is 0.
 pub fn round_half_up(n: u64, d: u64) -> u64
@@ -27,22 +36,17 @@ pub fn wide(x: u32) -> u64
     x as u64
 }
 
-fn lesser(a: usize, b: usize) -> usize
-    ensures { λ r. ⌜ r ≡ min a b ⌝ }
-{
-    if a < b { a } else { b }
-}
-
 // Whether x is among the first n numbers, or among all where there are fewer.
 pub fn holds(numbers: &[u32], n: usize, x: u32) -> bool
     ensures { λ r. ⌜ r ≡ member x (take n (now (numbers .entry))) ⌝ }
 {
-    let end = lesser(n, numbers.len());
     let mut found = false;
     let mut i = 0;
-    while i < end {
-        if numbers[i] == x {
-            found = true;
+    while i < numbers.len() {
+        if i < n {
+            if numbers[i] == x {
+                found = true;
+            }
         }
         i += 1;
     }

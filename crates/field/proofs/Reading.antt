@@ -10,7 +10,7 @@ use Rattle.base.proofs.Choice.{below, cond-same}
 use Rattle.field.specs.declared.Seen.{Seen}
 use Rattle.field.specs.declared.Seen.the-variants.{Blank, Digits, Broken}
 use Rattle.field.specs.declared.Field.the-variants.{Number, NotNumber}
-use Rattle.field.specs.Field.{columnOf, seenTo, finish, fieldAt}
+use Rattle.field.specs.Field.{columns, columnOf, seenTo, finish, fieldAt}
 
 -- no column holds byte 0
 zero-broken : (x : Seen) → columnOf x 0 ≡ Broken
@@ -19,7 +19,7 @@ zero-broken (Digits v) = simp cond-same
 zero-broken Broken = refl
 
 -- a field that runs past the end is no number
-pub past : (s : List ℕ) (at : ℕ) → length s < at + 9 → fieldAt s at ≡ NotNumber
+pub past : (s : List ℕ) (at : ℕ) → length s < at + columns → fieldAt s at ≡ NotNumber
 unfolding fieldAt seenTo
 past s at h =
     ap finish
@@ -40,7 +40,7 @@ broken-stays s at i (suc k) h e =
     (λ (l : suc k ≤ i). let p : i ≡ suc k = omega arith in ap (λ (j : ℕ). seenTo s at j) (sym p) ∙ e)
     (below i (suc k))
 
-pub no-feed : (s : List ℕ) (at n i : ℕ) → fieldAt s at ≡ Number n → i < 9 → getD s (at + i) 0 ≡ 10 → ⊥
+pub no-feed : (s : List ℕ) (at n i : ℕ) → fieldAt s at ≡ Number n → i < columns → getD s (at + i) 0 ≡ 10 → ⊥
 unfolding fieldAt seenTo
 no-feed s at n i f h e =
     let b : seenTo s at (suc i) ≡ Broken = ap (λ (x : ℕ). columnOf (seenTo s at i) x) e ∙ ten-broken (seenTo s at i) in
@@ -55,12 +55,12 @@ pub turn : (s : List ℕ) (at i : ℕ) (x r : Seen) → x ≡ seenTo s at i → 
 unfolding seenTo
 turn s at i x r e f = f ∙ ap (λ (y : Seen). columnOf y (getD s (at + i) 0)) e ∙ ap (λ (k : ℕ). seenTo s at k) (sym (add-one i))
 
-pub ended : (s : List ℕ) (at i : ℕ) (x : Seen) → i ≤ 9 → 9 ≤ i → x ≡ seenTo s at i → finish x ≡ fieldAt s at
+pub ended : (s : List ℕ) (at i : ℕ) (x : Seen) → i ≤ columns → columns ≤ i → x ≡ seenTo s at i → finish x ≡ fieldAt s at
 unfolding fieldAt
 ended s at i x l m e = let n : i ≡ 9 = omega arith in ap finish (e ∙ ap (λ (k : ℕ). seenTo s at k) n)
 
 -- a field is read off its nine columns alone
-pub field-same : (s t : List ℕ) (at : ℕ) → ((i : ℕ) → i < 9 → getD s (at + i) 0 ≡ getD t (at + i) 0) → fieldAt s at ≡ fieldAt t at
+pub field-same : (s t : List ℕ) (at : ℕ) → ((i : ℕ) → i < columns → getD s (at + i) 0 ≡ getD t (at + i) 0) → fieldAt s at ≡ fieldAt t at
 unfolding fieldAt seenTo
 field-same s t at h = ap finish (go 9 (omega arith))
   where

@@ -6,27 +6,27 @@ use mathlib.Core.Logic.{_⊎_, inl, inr, ⊎-elim}
 use mathlib.Core.List.{List, [], _∷_, _++_}
 use native.Mathlib.Nat.{pow-suc}
 use native.Mathlib.Omega.{arith}
-use lib.ListN.{length, getD, take, drop, length-drop, length-take}
+use lib.ListN.{length, getD, take, drop, length-drop}
 use lib.Seq.{take-suc, take-at, take-take, getD-at, getD-take, getD-drop}
 use lib.Dec.{ltb, eqb}
 use borrow.Author.Tests.{eq-eqb, ne-eqb, lt-ltb, le-ltb}
+use Rattle.base.specs.Limits.{largest}
 use Rattle.base.proofs.Choice.{below, same, never}
 use Rattle.field.specs.declared.Seen.{Seen}
 use Rattle.field.specs.declared.Seen.the-variants.{Blank, Digits, Broken}
-use Rattle.field.specs.declared.Field.{Field}
-use Rattle.field.specs.declared.Field.the-variants.{Number, NotNumber}
-use Rattle.field.specs.Field.{columnOf, ifDigit, seenTo, finish, fieldAt, glyphOf, justified, fieldOf}
+use Rattle.field.specs.declared.Field.the-variants.{Number}
+use Rattle.field.specs.Field.{columns, columnOf, ifDigit, seenTo, finish, fieldAt, glyphOf, justified, fieldOf}
 use Rattle.field.proofs.Reading.{past}
-use Rattle.field.proofs.Writing.{length-justified, length-fieldOf}
+use Rattle.field.proofs.Writing.{length-justified}
 
 -- Reading what is written.
 
 -- where a number stands before a column: 0 is not written
-seenOf : ℕ → Seen
+unfoldable pub seenOf : ℕ → Seen
 seenOf m = cond (eqb m 0) Blank (Digits m)
 
 -- a column that holds a digit of m, after the digits before it
-one-more : (m : ℕ) → m ≤ 99_999_999 → columnOf (seenOf (m / 10)) (48 + m % 10) ≡ Digits m
+pub one-more : (m : ℕ) → m ≤ largest → columnOf (seenOf (m / 10)) (48 + m % 10) ≡ Digits m
 unfolding seenOf
 one-more m h =
     let d : 48 + m % 10 - 48 ≡ m % 10 = omega arith in
@@ -36,11 +36,11 @@ one-more m h =
     (λ (z : m / 10 < 1).
     simp (eq-eqb (m / 10) 0 (omega arith), ne-eqb (48 + m % 10) 32 (λ e. omega arith), lo, hi, d) (ap Digits (omega arith)))
     (λ (z : 1 ≤ m / 10).
-    simp (ne-eqb (m / 10) 0 (λ e. omega arith), le-ltb 9_999_999 (m / 10) (omega arith), lo, hi, d) (ap Digits (omega arith)))
+    simp (ne-eqb (m / 10) 0 (λ e. omega arith), le-ltb (largest / 10) (m / 10) (omega arith), lo, hi, d) (ap Digits (omega arith)))
     (below (m / 10) 1)
 
 -- the same where 0 is a space
-glyph-more : (m : ℕ) → m ≤ 99_999_999 → columnOf (seenOf (m / 10)) (glyphOf m) ≡ seenOf m
+pub glyph-more : (m : ℕ) → m ≤ largest → columnOf (seenOf (m / 10)) (glyphOf m) ≡ seenOf m
 unfolding seenOf
 glyph-more m h =
     ⊎-elim
@@ -50,41 +50,31 @@ glyph-more m h =
     simp (ne-eqb m 0 (λ e. omega arith)) (one-more m h))
     (below m 1)
 
+-- the last of k + 1 columns, and those before it
+last-column : (s : List ℕ) (at k b : ℕ) (xs : List ℕ) → length xs ≡ k → take (suc k) (drop at s) ≡ xs ++ (b ∷ []) → (getD s (at + k) 0 ≡ b) × (take k (drop at s) ≡ xs)
+last-column s at k b xs n e = (
+  sym (getD-drop at s k 0) ∙ sym (getD-take (suc k) (drop at s) k 0 (omega arith)) ∙ ap (λ (x : List ℕ). getD x k 0) e ∙ getD-at xs b [] 0 k n,
+  sym (take-take k (suc k) (drop at s) (omega arith)) ∙ ap (λ (x : List ℕ). take k x) e ∙ take-at xs (b ∷ []) k n,
+)
+
 -- k columns that hold the digits of m
-read-justified : (s : List ℕ) (at k m : ℕ) → m < 10 ^ k → m ≤ 99_999_999 → k ≤ length (drop at s) → take k (drop at s) ≡ justified k m → seenTo s at k ≡ seenOf m
+read-justified : (s : List ℕ) (at k m : ℕ) → m < 10 ^ k → m ≤ largest → take k (drop at s) ≡ justified k m → seenTo s at k ≡ seenOf m
 unfolding seenOf seenTo justified
-read-justified s at zero m p h l e = simp (eq-eqb m 0 (omega arith))
-read-justified s at (suc k) m p h l e =
-    let g : getD s (at + k) 0 ≡ glyphOf m =
-    sym (getD-drop at s k 0)
-    ∙ sym (getD-take (suc k) (drop at s) k 0 (omega arith))
-    ∙ ap (λ (x : List ℕ). getD x k 0) e
-    ∙ getD-at (justified k (m / 10)) (glyphOf m) [] 0 k (length-justified k (m / 10)) in
-    let t : take k (drop at s) ≡ justified k (m / 10) =
-    sym (take-take k (suc k) (drop at s) (omega arith))
-    ∙ ap (λ (x : List ℕ). take k x) e
-    ∙ take-at (justified k (m / 10)) (glyphOf m ∷ []) k (length-justified k (m / 10)) in
-    ap (λ (b : ℕ). columnOf (seenTo s at k) b) g
-    ∙ ap (λ (x : Seen). columnOf x (glyphOf m)) (read-justified s at k (m / 10) (omega (arith, pow-suc 10 k)) (omega arith) (omega arith) t)
+read-justified s at zero m p h e = simp (eq-eqb m 0 (omega arith))
+read-justified s at (suc k) m p h e =
+    let c = last-column s at k (glyphOf m) (justified k (m / 10)) (length-justified k (m / 10)) e in
+    ap (λ (b : ℕ). columnOf (seenTo s at k) b) (c .0)
+    ∙ ap (λ (x : Seen). columnOf x (glyphOf m)) (read-justified s at k (m / 10) (omega (arith, pow-suc 10 k)) (omega arith) (c .1))
     ∙ glyph-more m h
 
 -- what is written for n reads as n
-pub read-written : (s : List ℕ) (at n : ℕ) → n ≤ 99_999_999 → take 9 (drop at s) ≡ fieldOf n → fieldAt s at ≡ Number n
+pub read-written : (s : List ℕ) (at n : ℕ) → n ≤ largest → take columns (drop at s) ≡ fieldOf n → fieldAt s at ≡ Number n
 unfolding fieldAt fieldOf seenOf seenTo
 read-written s at n h e =
-    let l : 9 ≤ length (drop at s) = omega (arith, sym (length-take 9 (drop at s)) ∙ ap length e ∙ length-fieldOf n) in
-    let g : getD s (at + 8) 0 ≡ 48 + n % 10 =
-    sym (getD-drop at s 8 0)
-    ∙ sym (getD-take 9 (drop at s) 8 0 (omega arith))
-    ∙ ap (λ (x : List ℕ). getD x 8 0) e
-    ∙ getD-at (justified 8 (n / 10)) (48 + n % 10) [] 0 8 (length-justified 8 (n / 10)) in
-    let t : take 8 (drop at s) ≡ justified 8 (n / 10) =
-    sym (take-take 8 9 (drop at s) (omega arith))
-    ∙ ap (λ (x : List ℕ). take 8 x) e
-    ∙ take-at (justified 8 (n / 10)) ((48 + n % 10) ∷ []) 8 (length-justified 8 (n / 10)) in
+    let c = last-column s at 8 (48 + n % 10) (justified 8 (n / 10)) (length-justified 8 (n / 10)) e in
     ap finish
-    (ap (λ (b : ℕ). columnOf (seenTo s at 8) b) g
-    ∙ ap (λ (x : Seen). columnOf x (48 + n % 10)) (read-justified s at 8 (n / 10) (omega arith) (omega arith) (omega arith) t)
+    (ap (λ (b : ℕ). columnOf (seenTo s at 8) b) (c .0)
+    ∙ ap (λ (x : Seen). columnOf x (48 + n % 10)) (read-justified s at 8 (n / 10) (omega arith) (omega arith) (c .1))
     ∙ one-more n h)
 
 -- What reads as a number is what is written for it.
@@ -100,8 +90,25 @@ digit-cases b u =
     (below 57 b))
     (below b 48)
 
+-- a column behind a number: it holds a digit, or the field is broken
+digits-cases : (u b : ℕ)
+    → ((1 ≤ u) × (u ≤ largest / 10) × (48 ≤ b) × (b ≤ 57) × (columnOf (Digits u) b ≡ Digits (10 * u + (b - 48)))) ⊎ (columnOf (Digits u) b ≡ Broken)
+digits-cases u b =
+    ⊎-elim
+    (λ (z : u < 1). inr (simp (eq-eqb u 0 (omega arith))))
+    (λ (z : 1 ≤ u).
+    ⊎-elim
+    (λ (y : largest / 10 < u). inr (simp (ne-eqb u 0 (λ e. omega arith), lt-ltb (largest / 10) u y)))
+    (λ (y : u ≤ largest / 10).
+    ⊎-elim
+    (λ w. inl (z, y, w .0, w .1, simp (ne-eqb u 0 (λ e. omega arith), le-ltb (largest / 10) u y) (w .2)))
+    (λ w. inr (simp (ne-eqb u 0 (λ e. omega arith), le-ltb (largest / 10) u y) w))
+    (digit-cases b (10 * u + (b - 48))))
+    (below (largest / 10) u))
+    (below u 1)
+
 Before : Seen → ℕ → ℕ → Type 0
-Before x b v = (b ≡ 48 + v % 10) × (x ≡ seenOf (v / 10)) × (v ≤ 99_999_999)
+Before x b v = (b ≡ 48 + v % 10) × (x ≡ seenOf (v / 10)) × (v ≤ largest)
 
 -- a column after which a number stands: `one-more` backwards
 from-digits : (x : Seen) (b v : ℕ) → columnOf x b ≡ Digits v → Before x b v
@@ -122,23 +129,12 @@ from-digits Blank b v e =
     (same b 32)
 from-digits (Digits u) b v e =
     ⊎-elim
-    (λ (z : u ≡ 0). let f = simp (eq-eqb u 0 z) at e in never (cc))
-    (λ (z : u ≡ 0 → ⊥).
-    ⊎-elim
-    (λ (y : 9_999_999 < u). let f = simp (ne-eqb u 0 z, lt-ltb 9_999_999 u y) at e in never (cc))
-    (λ (y : u ≤ 9_999_999).
-    let f = simp (ne-eqb u 0 z, le-ltb 9_999_999 u y) at e in
-    ⊎-elim
     (λ w.
     let q : 10 * u + (b - 48) ≡ v = cc in
-    let lo = w .0 in
-    let hi = w .1 in
-    let p : v / 10 ≡ u = omega arith in
-    (omega arith, simp (p, ne-eqb u 0 z), omega arith))
+    let p : v / 10 ≡ u = omega (arith, w) in
+    (omega (arith, w), simp (p, ne-eqb u 0 (λ z. omega (arith, w))), omega (arith, w)))
     (λ w. never (cc))
-    (digit-cases b (10 * u + (b - 48))))
-    (below 9_999_999 u))
-    (same u 0)
+    (digits-cases u b)
 from-digits Broken b v e = never (cc)
 
 -- a column after which only spaces stand
@@ -150,17 +146,7 @@ from-blank Blank b e =
     let f = simp (ne-eqb b 32 z) at e in
     ⊎-elim (λ w. never (cc)) (λ w. never (cc)) (digit-cases b (b - 48)))
     (same b 32)
-from-blank (Digits u) b e =
-    ⊎-elim
-    (λ (z : u ≡ 0). let f = simp (eq-eqb u 0 z) at e in never (cc))
-    (λ (z : u ≡ 0 → ⊥).
-    ⊎-elim
-    (λ (y : 9_999_999 < u). let f = simp (ne-eqb u 0 z, lt-ltb 9_999_999 u y) at e in never (cc))
-    (λ (y : u ≤ 9_999_999).
-    let f = simp (ne-eqb u 0 z, le-ltb 9_999_999 u y) at e in
-    ⊎-elim (λ w. never (cc)) (λ w. never (cc)) (digit-cases b (10 * u + (b - 48))))
-    (below 9_999_999 u))
-    (same u 0)
+from-blank (Digits u) b e = ⊎-elim (λ w. never (cc)) (λ w. never (cc)) (digits-cases u b)
 from-blank Broken b e = never (cc)
 
 -- `glyph-more` backwards
@@ -191,9 +177,8 @@ spelled s at (suc k) m l e =
     one-column s at k (glyphOf m) (justified k (m / 10)) l (spelled s at k (m / 10) (omega arith) (f .1)) (f .0)
 
 pub record IsField (s : List ℕ) (at n : ℕ) : Type 0 where
-  pub bytes : take 9 (drop at s) ≡ fieldOf n
-  pub small : n ≤ 99_999_999
-  pub within : at + 9 ≤ length s
+  pub bytes : take columns (drop at s) ≡ fieldOf n
+  pub small : n ≤ largest
 
 from-number : (x : Seen) (n : ℕ) → finish x ≡ Number n → x ≡ Digits n
 from-number Blank n e = never (cc)
@@ -212,14 +197,5 @@ written-read s at n e =
     record {
       bytes = one-column s at 8 (48 + n % 10) (justified 8 (n / 10)) l (spelled s at 8 (n / 10) (omega arith) (f .1)) (f .0);
       small = f .2;
-      within = h;
     })
     (below (length s) (at + 9))
-
--- nine bytes that are written for no number are no number
-pub not-number : (s : List ℕ) (at : ℕ) → ((n : ℕ) → n ≤ 99_999_999 → take 9 (drop at s) ≡ fieldOf n → ⊥) → fieldAt s at ≡ NotNumber
-not-number s at none = go (fieldAt s at) refl
-  where
-    go : (f : Field) → fieldAt s at ≡ f → f ≡ NotNumber
-    go (Number n) e = let w = written-read s at n e in absurd (none n (w .small) (w .bytes))
-    go NotNumber e = refl

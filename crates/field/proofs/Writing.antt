@@ -7,20 +7,21 @@ use native.Mathlib.Omega.{arith}
 use lib.ListN.{length, set, length-append}
 use borrow.Author.Tests.{le-leb, lt-leb}
 use Rattle.base.specs.Buffer.{put}
+use Rattle.base.specs.Limits.{largest}
 use Rattle.base.proofs.Choice.{cond-same}
 use Rattle.base.proofs.Buffer.{put-nil, put-snoc}
-use Rattle.field.specs.Field.{glyphOf, justified, fieldOf, fieldFits, afterField}
+use Rattle.field.specs.Field.{columns, glyphOf, justified, fieldOf, fieldFits, afterField}
 
 pub length-justified : (k n : ℕ) → length (justified k n) ≡ k
 unfolding justified
 length-justified zero n = refl
 length-justified (suc k) n = rw (length-append, length-justified k (n / 10)) (omega arith)
 
-pub length-fieldOf : (n : ℕ) → length (fieldOf n) ≡ 9
+pub length-fieldOf : (n : ℕ) → length (fieldOf n) ≡ columns
 unfolding fieldOf
 length-fieldOf n = length-append (justified 8 (n / 10)) ((48 + n % 10) ∷ []) ∙ ap (λ (k : ℕ). k + 1) (length-justified 8 (n / 10))
 
--- The loop of `write_field`: its start, a turn, and its end.
+-- The loop of `put_field`: its start, a turn, and its end.
 
 pub write-last : (out : List ℕ) (at n : ℕ) → at + 8 < length out → put (set out (at + 8) (48 + n % 10)) at (justified 8 (n / 10)) ≡ put out at (fieldOf n)
 unfolding fieldOf
@@ -56,15 +57,15 @@ module _ (n at : ℕ) (lent : List ℕ) where
   unfolding afterField
   left e = (sym e, simp e)
 
-  pub too-large : 99_999_999 < n → (false ≡ fieldFits n at (length lent)) × (lent ≡ afterField n at lent)
-  too-large h = left (simp (lt-leb n 99_999_999 h))
+  pub too-large : largest < n → (false ≡ fieldFits n at (length lent)) × (lent ≡ afterField n at lent)
+  too-large h = left (simp (lt-leb n largest h))
 
-  pub no-room : length lent < at + 9 → (false ≡ fieldFits n at (length lent)) × (lent ≡ afterField n at lent)
-  no-room h = left (simp (lt-leb (at + 9) (length lent) h, cond-same))
+  pub no-room : length lent < at + columns → (false ≡ fieldFits n at (length lent)) × (lent ≡ afterField n at lent)
+  no-room h = left (simp (lt-leb (at + columns) (length lent) h, cond-same))
 
-  pub fits : n ≤ 99_999_999 → at + 9 ≤ length lent → fieldFits n at (length lent) ≡ true
-  fits h k = simp (le-leb n 99_999_999 h, le-leb (at + 9) (length lent) k)
+  pub fits : n ≤ largest → at + columns ≤ length lent → fieldFits n at (length lent) ≡ true
+  fits h k = simp (le-leb n largest h, le-leb (at + columns) (length lent) k)
 
-  pub field-written : n ≤ 99_999_999 → at + 9 ≤ length lent → afterField n at lent ≡ put lent at (fieldOf n)
+  pub field-written : n ≤ largest → at + columns ≤ length lent → afterField n at lent ≡ put lent at (fieldOf n)
   unfolding afterField
   field-written h k = simp (fits h k)

@@ -5,10 +5,15 @@ use mathlib.Core.List.{List, [], _∷_, _++_}
 use lib.ListN.{length, getD}
 use lib.Dec.{leb, ltb, eqb}
 use Rattle.base.specs.Buffer.{put}
+use Rattle.base.specs.Limits.{largest}
 use Rattle.field.specs.declared.Seen.{Seen}
 use Rattle.field.specs.declared.Seen.the-variants.{Blank, Digits, Broken}
 use Rattle.field.specs.declared.Field.{Field}
 use Rattle.field.specs.declared.Field.the-variants.{Number, NotNumber}
+
+-- how many columns, each of one byte
+abbrev pub columns : ℕ
+columns = 9
 
 -- Reading.
 
@@ -19,7 +24,7 @@ ifDigit b x = cond (ltb b 48) Broken (cond (ltb 57 b) Broken x)
 -- one more column: a space (byte 32) while only spaces were seen, a first digit, or a digit after a number of one to seven digits that is not 0
 abbrev pub columnOf : Seen → ℕ → Seen
 columnOf Blank b = cond (eqb b 32) Blank (ifDigit b (Digits (b - 48)))
-columnOf (Digits v) b = cond (eqb v 0) Broken (cond (ltb 9_999_999 v) Broken (ifDigit b (Digits (10 * v + (b - 48)))))
+columnOf (Digits v) b = cond (eqb v 0) Broken (cond (ltb (largest / 10) v) Broken (ifDigit b (Digits (10 * v + (b - 48)))))
 columnOf Broken b = Broken
 
 -- what the first k columns from `at` hold; past the end of s stands no byte that a field may have
@@ -32,9 +37,9 @@ finish Blank = NotNumber
 finish (Digits v) = Number v
 finish Broken = NotNumber
 
--- the field whose nine columns start at `at`
+-- the field whose columns start at `at`
 unfoldable pub fieldAt : List ℕ → ℕ → Field
-fieldAt s at = finish (seenTo s at 9)
+fieldAt s at = finish (seenTo s at columns)
 
 -- Writing.
 
@@ -49,15 +54,11 @@ justified (suc k) n = justified k (n / 10) ++ (glyphOf n ∷ [])
 
 -- n's field: its last digit, which is written even where n is 0, and before it the other digits
 unfoldable pub fieldOf : ℕ → List ℕ
-fieldOf n = justified 8 (n / 10) ++ ((48 + n % 10) ∷ [])
-
--- the largest number that a field holds
-abbrev pub largest : ℕ
-largest = 99_999_999
+fieldOf n = justified (columns - 1) (n / 10) ++ ((48 + n % 10) ∷ [])
 
 -- n has at most eight digits, and its field from `at` on lies within so many bytes
 abbrev pub fieldFits : ℕ → ℕ → ℕ → Bool
-fieldFits n at room = cond (leb n largest) (leb (at + 9) room) false
+fieldFits n at room = cond (leb n largest) (leb (at + columns) room) false
 
 -- the buffer once n's field was to be written from `at` on: as lent where it does not fit
 unfoldable pub afterField : ℕ → ℕ → List ℕ → List ℕ

@@ -3,7 +3,16 @@ ghost use mathlib.Core.Path.{_≡_};
 ghost use Prim.Native.Nat.{_+_, _≤_};
 ghost use lib.ListN.{length};
 ghost use Rattle.base.specs.Buffer.{put};
-ghost use Rattle.field.specs.Field.{columnOf, fieldAt, glyphOf, fieldOf, fieldFits, afterField};
+ghost use Rattle.field.specs.Field.{columns, columnOf, fieldAt, glyphOf, fieldOf, fieldFits, afterField};
+use base::LARGEST;
+
+// How many columns, and so bytes, a field has; its last digit stands in the last.
+pub const COLUMNS: usize = 9;
+
+const LAST: usize = COLUMNS - 1;
+
+// The largest number that one more digit may follow.
+const SEVEN_DIGITS: u32 = LARGEST / 10;
 
 // What the columns passed so far hold.
 pub enum Seen {
@@ -39,7 +48,7 @@ fn column(seen: Seen, b: u8) -> Seen
             if v == 0 {
                 return Seen::Broken;
             }
-            if 9_999_999 < v {
+            if SEVEN_DIGITS < v {
                 return Seen::Broken;
             }
             if b < 48 {
@@ -58,15 +67,15 @@ fn column(seen: Seen, b: u8) -> Seen
 pub fn read_field(s: &[u8], at: usize) -> Field
     ensures { λ r. ⌜ r ≡ fieldAt (now (s .entry)) at ⌝ }
 {
-    if s.len() < 9 {
+    if s.len() < COLUMNS {
         return Field::NotNumber;
     }
-    if s.len() - 9 < at {
+    if s.len() - COLUMNS < at {
         return Field::NotNumber;
     }
     let mut seen = Seen::Blank;
     let mut i: usize = 0;
-    while i < 9 {
+    while i < COLUMNS {
         let b = s[at + i];
         seen = column(seen, b);
         i += 1;
@@ -86,13 +95,13 @@ fn glyph(n: u32) -> u8
 }
 
 // Writes n's field from `at` on, the last digit first.
-fn lay_field(out: &mut [u8], at: usize, n: u32)
-    requires { ⌜ at + 9 ≤ length (now out) ⌝ }
+fn put_field(out: &mut [u8], at: usize, n: u32)
+    requires { ⌜ at + columns ≤ length (now out) ⌝ }
     ensures { λ _. ⌜ now (out .exit) ≡ put (now (out .entry)) at (fieldOf n) ⌝ }
 {
-    out[at + 8] = 48 + (n % 10) as u8;
+    out[at + LAST] = 48 + (n % 10) as u8;
     let mut rest = n / 10;
-    let mut i: usize = 8;
+    let mut i: usize = LAST;
     while 0 < i {
         i -= 1;
         out[at + i] = glyph(rest);
@@ -105,15 +114,15 @@ fn lay_field(out: &mut [u8], at: usize, n: u32)
 pub fn write_field(out: &mut [u8], at: usize, n: u32) -> bool
     ensures { λ r. ⌜ (r ≡ fieldFits n at (length (now (out .entry)))) × (now (out .exit) ≡ afterField n at (now (out .entry))) ⌝ }
 {
-    if 99_999_999 < n {
+    if LARGEST < n {
         return false;
     }
-    if out.len() < 9 {
+    if out.len() < COLUMNS {
         return false;
     }
-    if out.len() - 9 < at {
+    if out.len() - COLUMNS < at {
         return false;
     }
-    lay_field(out, at, n);
+    put_field(out, at, n);
     true
 }

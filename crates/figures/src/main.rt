@@ -8,6 +8,8 @@ use tankcar::DensityAt20;
 use tankcar::Directory;
 use tankcar::Expansion;
 use tankcar::Factor;
+use tankcar::LEAST_BUFFER;
+use tankcar::PLACES;
 
 fn say(text: &[u8]) {
     io::write_all(STDOUT_FILENO, text);
@@ -95,7 +97,7 @@ fn show_car(answer: CarAnswer) {
 
 // The answer to a sheet of a few bytes.
 fn show_sheet(text: &[u8]) {
-    let mut out = [0u8; 3389];
+    let mut out = [0u8; LEAST_BUFFER];
     let reply = tankcar::answer_sheet(text, &mut out);
     let length = reply.length;
     say(&out[..length]);
@@ -108,8 +110,8 @@ fn main() {
     show_density(2, 9635);
     show_density(3, 9900);
     show_expansion(9632, 523);
-    let mut levels = [0u32; 1600];
-    let mut capacities = [0u32; 1600];
+    let mut levels = [0u32; PLACES];
+    let mut capacities = [0u32; PLACES];
     levels[1] = 100;
     capacities[1] = 435;
     levels[2] = 2900;

@@ -3,31 +3,31 @@ use mathlib.Core.Path.{_≡_, refl}
 use mathlib.Core.List.{[], _∷_}
 use Rattle.base.specs.Rounding.{rounded}
 use Rattle.base.specs.Answer.{figures, refusal}
-use Rattle.level.specs.Level.{meanLevel, unusedBad, disagree, readingsTests, meanLevelAnswer}
+use Rattle.level.specs.Level.{meanLevel, unusedBad, disagree, meanLevelAnswer}
 use Rattle.level.specs.Tape.{allowanceAnswer}
 
 -- Levels in mm. The number of readings, the readings, and the answer.
 
 pub closest-three : meanLevelAnswer 4 (1_500 ∷ 1_504 ∷ 1_501 ∷ 1_502 ∷ []) ≡ figures (1_501 ∷ [])
-unfolding meanLevelAnswer readingsTests unusedBad disagree meanLevel rounded
+unfolding meanLevelAnswer unusedBad disagree meanLevel rounded
 closest-three = refl
 
 -- two triples as close: the lower one
 pub lower-triple : meanLevelAnswer 4 (1_500 ∷ 1_503 ∷ 1_501 ∷ 1_502 ∷ []) ≡ figures (1_501 ∷ [])
-unfolding meanLevelAnswer readingsTests unusedBad disagree meanLevel rounded
+unfolding meanLevelAnswer unusedBad disagree meanLevel rounded
 lower-triple = refl
 
 pub two-apart : meanLevelAnswer 2 (1_500 ∷ 1_502 ∷ 0 ∷ 0 ∷ []) ≡ refusal 15
-unfolding meanLevelAnswer readingsTests unusedBad disagree meanLevel rounded
+unfolding meanLevelAnswer unusedBad disagree meanLevel rounded
 two-apart = refl
 
 -- a half goes up
 pub two-agree : meanLevelAnswer 2 (1_500 ∷ 1_501 ∷ 0 ∷ 0 ∷ []) ≡ figures (1_501 ∷ [])
-unfolding meanLevelAnswer readingsTests unusedBad disagree meanLevel rounded
+unfolding meanLevelAnswer unusedBad disagree meanLevel rounded
 two-agree = refl
 
 pub level-nought : meanLevelAnswer 2 (0 ∷ 0 ∷ 0 ∷ 0 ∷ []) ≡ refusal 16
-unfolding meanLevelAnswer readingsTests unusedBad disagree meanLevel rounded
+unfolding meanLevelAnswer unusedBad disagree meanLevel rounded
 level-nought = refl
 
 -- Levels in mm and tape allowances in 0.01 mm.

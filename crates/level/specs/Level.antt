@@ -1,11 +1,12 @@
--- Step 1 of document 01, the mean level of two or four readings, with refusals 14 to 16. All levels are in mm.
-use Prim.Native.Nat.{ℕ, _+_, _-_}
+-- Step 1 of document 01, the mean level of two or four readings, with refusals 14 to 16. Readings are in mm, a mean level in units of it.
+use Prim.Native.Nat.{ℕ, _+_, _-_, _*_}
 use mathlib.Core.Bool.{Bool, cond, not, _&&_, _||_}
 use mathlib.Core.List.{List, [], _∷_, _++_}
 use lib.Dec.{ltb, leb, eqb}
 use lib.ListN.{getD}
 use Rattle.base.specs.Rounding.{rounded}
-use Rattle.base.specs.Answer.{Verdict, refuseIf, first, Answer, figures, refusal, answer}
+use Rattle.base.specs.Limits.{levelUnits}
+use Rattle.base.specs.Answer.{Test, refuseIf, first, Answer, figures, refusal, answer}
 use Rattle.level.specs.declared.MeanLevel.{MeanLevel}
 use Rattle.level.specs.declared.MeanLevel.the-variants.{Millimetres, Refused}
 
@@ -19,9 +20,13 @@ abbrev pub sorted : List ℕ → List ℕ
 sorted [] = []
 sorted (x ∷ xs) = inserted x (sorted xs)
 
+-- R of the mean of n readings, by their sum
+abbrev pub meanOf : ℕ → ℕ → ℕ
+meanOf sum n = rounded (levelUnits * sum) n
+
 -- R of the mean of the three closest of a, b, c, d, which stand in rising order; the lower three where both triples are as close
 abbrev pub closest : ℕ → ℕ → ℕ → ℕ → ℕ
-closest a b c d = cond (leb (c - a) (d - b)) (rounded (a + b + c) 3) (rounded (b + c + d) 3)
+closest a b c d = cond (leb (c - a) (d - b)) (meanOf (a + b + c) 3) (meanOf (b + c + d) 3)
 
 -- the same of a list of four in rising order
 abbrev pub closestOf : List ℕ → ℕ
@@ -33,7 +38,7 @@ apart a b = ltb 1 (cond (ltb a b) (b - a) (a - b))
 
 -- the mean level of four readings, of which the last two count only where the first two are apart
 unfoldable pub meanLevel : List ℕ → ℕ
-meanLevel x = cond (apart (getD x 0 0) (getD x 1 0)) (closestOf (sorted x)) (rounded (getD x 0 0 + getD x 1 0) 2)
+meanLevel x = cond (apart (getD x 0 0) (getD x 1 0)) (closestOf (sorted x)) (meanOf (getD x 0 0 + getD x 1 0) 2)
 
 -- 14: the number n of readings is neither 2 nor 4, or an unused one is not 0
 unfoldable pub unusedBad : ℕ → List ℕ → Bool
@@ -44,7 +49,7 @@ unfoldable pub disagree : ℕ → List ℕ → Bool
 disagree n x = eqb n 2 && apart (getD x 0 0) (getD x 1 0)
 
 -- the refusals of n readings, in the listed order
-unfoldable pub readingsTests : ℕ → List ℕ → List Verdict
+abbrev pub readingsTests : ℕ → List ℕ → List Test
 readingsTests n x =
     refuseIf 14 (unusedBad n x)
     ∷ refuseIf 15 (disagree n x)
@@ -52,9 +57,9 @@ readingsTests n x =
 
 -- the mean level by itself, which is refused where it is 0
 unfoldable pub meanLevelAnswer : ℕ → List ℕ → Answer
-meanLevelAnswer n x = answer (first (readingsTests n x ++ refuseIf 16 (eqb (meanLevel x) 0) ∷ [])) (meanLevel x ∷ [])
+meanLevelAnswer n x = answer (first (readingsTests n x ++ (refuseIf 16 (eqb (meanLevel x) 0) ∷ []))) (meanLevel x ∷ [])
 
 -- what the code's answer says
-abbrev pub told : MeanLevel → Answer
-told (Millimetres level) = figures (level ∷ [])
-told (Refused n) = refusal n
+abbrev pub meanLevelTold : MeanLevel → Answer
+meanLevelTold (Millimetres level) = figures (level ∷ [])
+meanLevelTold (Refused n) = refusal n

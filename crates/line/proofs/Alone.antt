@@ -12,13 +12,14 @@ use borrow.Author.Tests.{eqb-true, eqb-false, lt-ltb}
 use Rattle.field.specs.declared.Field.{Field}
 use Rattle.field.specs.Field.{fieldAt}
 use Rattle.field.proofs.Reading.{field-same}
-use Rattle.line.specs.declared.reading.Found.{Found}
-use Rattle.line.specs.declared.reading.Found.the-variants.{Is, Nothing}
-use Rattle.line.specs.declared.reading.Reading.the-variants.{Read}
-use Rattle.line.specs.declared.reading.LineRead.{LineRead}
-use Rattle.line.specs.Letter.{countOf}
-use Rattle.line.specs.Reading.{letterOf, any, feed, feedAt, isNumber, numberOf, good, values, filled, refuse, lineBy, lineAt, readLine, EndsAtFeed}
-use Rattle.line.proofs.Fields.{feed-run, feed-byte}
+use Rattle.reading.specs.declared.Found.{Found}
+use Rattle.reading.specs.declared.Found.the-variants.{Is, Nothing}
+use Rattle.reading.specs.declared.Reading.the-variants.{Read}
+use Rattle.reading.specs.declared.LineRead.{LineRead}
+use Rattle.reading.specs.Letter.{countOf}
+use Rattle.reading.specs.Reading.{letterOf, feed, feedAt, isNumber, fieldValue, good, values, filled, refusedLine, lineBy, any, lineAt}
+use Rattle.line.specs.Alone.{readLine, EndsAtFeed}
+use Rattle.reading.proofs.Fields.{feed-run, feed-byte}
 
 -- no byte before the first line feed is one
 before-feed : (s : List ℕ) (i : ℕ) → i < feed s → getD s i 0 ≡ 10 → ⊥
@@ -40,7 +41,7 @@ fields-same s t at (suc k) h =
     let f : fieldAt s (at + 9 * k) ≡ fieldAt t (at + 9 * k) =
     field-same s t (at + 9 * k) (λ i l. let p : at + 9 * k + i ≡ at + (9 * k + i) = omega arith in rw p (h (9 * k + i) (omega arith))) in (
       ap (λ (x : Bool). cond x (isNumber (fieldAt s (at + 9 * k))) false) (r .0) ∙ ap (λ (x : Field). cond (good t at k) (isNumber x) false) f,
-      ap (λ (x : List ℕ). x ++ (numberOf (fieldAt s (at + 9 * k)) ∷ [])) (r .1) ∙ ap (λ (x : Field). values t at k ++ (numberOf x ∷ [])) f,
+      ap (λ (x : List ℕ). x ++ (fieldValue (fieldAt s (at + 9 * k)) ∷ [])) (r .1) ∙ ap (λ (x : Field). values t at k ++ (fieldValue x ∷ [])) f,
     )
 
 module _ (s t : List ℕ) (e : ℕ) (h : (i : ℕ) → i ≤ e → getD s i 0 ≡ getD t i 0) where
@@ -51,9 +52,9 @@ module _ (s t : List ℕ) (e : ℕ) (h : (i : ℕ) → i ≤ e → getD s i 0 �
     where
       inner : List ℕ → LineRead
       inner u =
-          cond (good u (0 + 1) (countOf l)) (record { reading = Read l; numbers = filled (values u (0 + 1) (countOf l)) (countOf l) }) (refuse 6)
+          cond (good u (0 + 1) (countOf l)) (record { reading = Read l; numbers = filled (values u (0 + 1) (countOf l)) (countOf l) }) (refusedLine 6)
 
-      go : (b : Bool) → eqb (e - 0) (1 + 9 * countOf l) ≡ b → cond b (inner s) (refuse 5) ≡ cond b (inner t) (refuse 5)
+      go : (b : Bool) → eqb (e - 0) (1 + 9 * countOf l) ≡ b → cond b (inner s) (refusedLine 5) ≡ cond b (inner t) (refusedLine 5)
       go false p = refl
       go true p =
           let n : e - 0 ≡ 1 + 9 * countOf l = eqb-true (e - 0) (1 + 9 * countOf l) p in

@@ -1,4 +1,4 @@
--- Laws of writing a line: its bytes as the loop lays them, and whether it can be written.
+-- Laws of writing a line: its bytes as the loop writes them, and whether it can be written.
 use Prim.Native.Nat.{ℕ, zero, suc, _+_, _*_, _≤_, _<_}
 use mathlib.Core.Path.{_≡_, refl, ap, sym, _∙_}
 use mathlib.Core.Bool.{Bool, true, false, cond}
@@ -12,64 +12,54 @@ use lib.Dec.{leb}
 use borrow.Author.Tests.{le-leb, lt-leb, leb-true}
 use Rattle.base.specs.Answer.{refusal, figures}
 use Rattle.base.specs.Buffer.{put}
+use Rattle.base.specs.Limits.{largest}
 use Rattle.base.proofs.Choice.{below, cond-same, both}
 use Rattle.base.proofs.Buffer.{put-put, set-put, length-put}
 use Rattle.field.specs.Field.{fieldOf, afterField}
 use Rattle.field.proofs.Writing.{length-fieldOf, field-written}
-use Rattle.line.specs.declared.letter.Letter.{Letter}
-use Rattle.line.specs.declared.letter.Letter.the-variants.{Table, Row, Car, End, CarAccepted, CarRefused, Totals, SheetRefused}
-use Rattle.line.specs.declared.letter.Line.{Line}
-use Rattle.line.specs.Letter.{byteOf, countOf, widthOf}
+use Rattle.reading.specs.declared.letter.Line.{Line}
+use Rattle.reading.specs.Letter.{byteOf, countOf, widthOf}
 use Rattle.line.specs.Writing.{fieldsOf, lineOf, smallTo, writable, writeAnswer, afterWrite}
-
-pub count-most : (l : Letter) → countOf l ≤ 14
-count-most Table = omega arith
-count-most Row = omega arith
-count-most Car = omega arith
-count-most End = omega arith
-count-most CarAccepted = omega arith
-count-most CarRefused = omega arith
-count-most Totals = omega arith
-count-most SheetRefused = omega arith
+use Rattle.reading.proofs.Letters.{count-most}
 
 -- Small numbers.
 
-pub small-more : (ns : List ℕ) (j : ℕ) → smallTo ns j ≡ true → getD ns j 0 ≤ 99_999_999 → smallTo ns (j + 1) ≡ true
+pub small-more : (ns : List ℕ) (j : ℕ) → smallTo ns j ≡ true → getD ns j 0 ≤ largest → smallTo ns (j + 1) ≡ true
 unfolding smallTo
-small-more ns j g h = ap (λ (k : ℕ). smallTo ns k) (add-one j) ∙ simp (g, le-leb (getD ns j 0) 99_999_999 h)
+small-more ns j g h = ap (λ (k : ℕ). smallTo ns k) (add-one j) ∙ simp (g, le-leb (getD ns j 0) largest h)
 
-pub large-stays : (ns : List ℕ) (j k : ℕ) → j < k → 99_999_999 < getD ns j 0 → smallTo ns k ≡ false
+pub large-stays : (ns : List ℕ) (j k : ℕ) → j < k → largest < getD ns j 0 → smallTo ns k ≡ false
 unfolding smallTo
 large-stays ns j zero h l = absurd (omega arith)
 large-stays ns j (suc k) h l =
     ⊎-elim
-    (λ (m : j < k). ap (λ (t : Bool). cond t (leb (getD ns k 0) 99_999_999) false) (large-stays ns j k m l))
+    (λ (m : j < k). ap (λ (t : Bool). cond t (leb (getD ns k 0) largest) false) (large-stays ns j k m l))
     (λ (m : k ≤ j).
     let p : j ≡ k = omega arith in
-    ap (λ (t : Bool). cond (smallTo ns k) t false) (lt-leb (getD ns k 0) 99_999_999 (rw p at l)) ∙ cond-same (smallTo ns k) false)
+    ap (λ (t : Bool). cond (smallTo ns k) t false) (lt-leb (getD ns k 0) largest (rw p at l)) ∙ cond-same (smallTo ns k) false)
     (below j k)
 
 pub small-done : (ns : List ℕ) (j k : ℕ) → j ≤ k → k ≤ j → smallTo ns j ≡ true → true ≡ smallTo ns k
 small-done ns j k h h′ g = let p : j ≡ k = omega arith in sym (rw p at g)
 
-pub small-at : (ns : List ℕ) (k : ℕ) → smallTo ns k ≡ true → (j : ℕ) → j < k → getD ns j 0 ≤ 99_999_999
+pub small-at : (ns : List ℕ) (k : ℕ) → smallTo ns k ≡ true → (j : ℕ) → j < k → getD ns j 0 ≤ largest
 unfolding smallTo
 small-at ns zero e j h = absurd (omega arith)
 small-at ns (suc k) e j h =
-    let p = both (smallTo ns k) (leb (getD ns k 0) 99_999_999) e in
+    let p = both (smallTo ns k) (leb (getD ns k 0) largest) e in
     ⊎-elim
     (λ (i : j < k). small-at ns k (p .0) j i)
-    (λ (i : k ≤ j). let q : k ≡ j = omega arith in rw q at (leb-true (getD ns k 0) 99_999_999 (p .1)))
+    (λ (i : k ≤ j). let q : k ≡ j = omega arith in rw q at (leb-true (getD ns k 0) largest (p .1)))
     (below j k)
 
-pub small-from : (ns : List ℕ) (k : ℕ) → ((j : ℕ) → j < k → getD ns j 0 ≤ 99_999_999) → smallTo ns k ≡ true
+pub small-from : (ns : List ℕ) (k : ℕ) → ((j : ℕ) → j < k → getD ns j 0 ≤ largest) → smallTo ns k ≡ true
 unfolding smallTo
 small-from ns zero f = refl
-small-from ns (suc k) f = simp (small-from ns k (λ j h. f j (omega arith)), le-leb (getD ns k 0) 99_999_999 (f k (omega arith)))
+small-from ns (suc k) f = simp (small-from ns k (λ j h. f j (omega arith)), le-leb (getD ns k 0) largest (f k (omega arith)))
 
 -- The fields of a line.
 
-pub length-fieldsOf : (ns : List ℕ) → length (fieldsOf ns) ≡ 9 * length ns
+length-fieldsOf : (ns : List ℕ) → length (fieldsOf ns) ≡ 9 * length ns
 unfolding fieldsOf
 length-fieldsOf [] = refl
 length-fieldsOf (n ∷ ns) = rw (length-append, length-fieldOf n, length-fieldsOf ns) (omega arith)
@@ -94,9 +84,9 @@ length-lineOf l n =
     ap suc (length-append (fieldsOf (take (countOf (l .letter)) (l .numbers))) (10 ∷ []))
     ∙ omega (arith, fields-length (l .numbers) (countOf (l .letter)) (omega (arith, count-most (l .letter))))
 
--- The loop of `lay_line`: one more field, and the end.
+-- The loop of `put_line`: one more field, and the end.
 
-pub write-more : (o : List ℕ) (at j : ℕ) (ns out out′ : List ℕ) → j < length ns → getD ns j 0 ≤ 99_999_999 → at + 9 * j + 9 ≤ length o → length out ≡ length o
+pub write-more : (o : List ℕ) (at j : ℕ) (ns out out′ : List ℕ) → j < length ns → getD ns j 0 ≤ largest → at + 9 * j + 9 ≤ length o → length out ≡ length o
     → out ≡ put o at (fieldsOf (take j ns)) → out′ ≡ afterField (getD ns j 0) (at + 9 * j) out → out′ ≡ put o at (fieldsOf (take (j + 1) ns))
 write-more o at j ns out out′ h small r len e f =
     let x : List ℕ = fieldsOf (take j ns) in
@@ -156,9 +146,9 @@ module _ (l : Line) (at : ℕ) (o : List ℕ) where
   unfolding writable
   large e = left (simp e (cond-same (leb (at + widthOf (l .letter)) (length o)) false))
 
-  pub laid : writable l at (length o) ≡ true → put o at (lineOf l) ≡ afterWrite l at o
+  pub line-written : writable l at (length o) ≡ true → put o at (lineOf l) ≡ afterWrite l at o
   unfolding afterWrite
-  laid e = simp e
+  line-written e = simp e
 
 pub answered : (l : Line) (at room : ℕ) → writable l at room ≡ true → figures (widthOf (l .letter) ∷ []) ≡ writeAnswer l at room
 unfolding writeAnswer

@@ -4,8 +4,9 @@ use mathlib.Core.Path.{_≡_, refl}
 use mathlib.Core.List.{List, [], _∷_}
 use lib.ListN.{replicate}
 use Rattle.field.specs.Field.{seenTo, fieldAt, justified, fieldOf}
-use Rattle.line.specs.declared.letter.Letter.the-variants.{Row, Car}
-use Rattle.line.specs.Reading.{letterOf, feed, feedAt, good, values, refuse, lineBy, lineAt, readLine}
+use Rattle.reading.specs.declared.letter.Letter.the-variants.{Row, Car}
+use Rattle.reading.specs.Reading.{letterOf, feed, feedAt, good, values, refusedLine, lineBy, lineAt}
+use Rattle.line.specs.Alone.{readLine}
 use Rattle.line.specs.RoundTrip.{readAs}
 use Rattle.line.specs.Writing.{fieldsOf, lineOf}
 
@@ -23,15 +24,15 @@ unfolding fieldsOf justified fieldOf lineOf
 row = refl
 
 -- "E" and the field "      002"
-leading-zero : readLine (69 ∷ 32 ∷ 32 ∷ 32 ∷ 32 ∷ 32 ∷ 32 ∷ 48 ∷ 48 ∷ 50 ∷ 10 ∷ []) ≡ refuse 6
+leading-zero : readLine (69 ∷ 32 ∷ 32 ∷ 32 ∷ 32 ∷ 32 ∷ 32 ∷ 48 ∷ 48 ∷ 50 ∷ 10 ∷ []) ≡ refusedLine 6
 unfolding seenTo fieldAt letterOf feed feedAt good values lineBy lineAt
 leading-zero = refl
 
-carriage-return : readLine (69 ∷ 32 ∷ 32 ∷ 32 ∷ 32 ∷ 32 ∷ 32 ∷ 32 ∷ 32 ∷ 50 ∷ 13 ∷ 10 ∷ []) ≡ refuse 5
+carriage-return : readLine (69 ∷ 32 ∷ 32 ∷ 32 ∷ 32 ∷ 32 ∷ 32 ∷ 32 ∷ 32 ∷ 50 ∷ 13 ∷ 10 ∷ []) ≡ refusedLine 5
 unfolding letterOf feed feedAt lineBy lineAt
 carriage-return = refl
 
 -- "hello" with no line feed is 3, whatever its letter
-no-feed : readLine (104 ∷ 101 ∷ 108 ∷ 108 ∷ 111 ∷ []) ≡ refuse 3
+no-feed : readLine (104 ∷ 101 ∷ 108 ∷ 108 ∷ 111 ∷ []) ≡ refusedLine 3
 unfolding feed feedAt lineAt
 no-feed = refl

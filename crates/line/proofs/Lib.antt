@@ -1,6 +1,3 @@
-pub mod Fields
-pub mod Lines
-pub mod Row
 pub mod Alone
 pub mod Bytes
 pub mod RoundTrip

@@ -11,24 +11,26 @@ use lib.Seq.{take-add, take-at, take-suc, take-take, drop-cons, drop-drop, drop-
 use lib.Dec.{eqb}
 use borrow.Author.Tests.{ne-eqb}
 use Rattle.base.specs.Buffer.{put}
+use Rattle.base.specs.Limits.{largest}
 use Rattle.field.specs.declared.Field.{Field}
 use Rattle.field.specs.declared.Field.the-variants.{Number}
 use Rattle.field.specs.Field.{fieldAt, glyphOf, justified, fieldOf}
 use Rattle.field.proofs.Writing.{length-fieldOf}
 use Rattle.field.proofs.RoundTrip.{written-read, read-written}
-use Rattle.line.specs.declared.letter.Letter.{Letter}
-use Rattle.line.specs.declared.letter.Letter.the-variants.{Table, Row, Car, End, CarAccepted, CarRefused, Totals, SheetRefused}
-use Rattle.line.specs.declared.letter.Line.{Line}
-use Rattle.line.specs.declared.reading.Due.{Due}
-use Rattle.line.specs.declared.reading.Found.the-variants.{Is}
-use Rattle.line.specs.declared.reading.Reading.the-variants.{Read}
-use Rattle.line.specs.Letter.{byteOf, countOf, widthOf}
-use Rattle.line.specs.Reading.{letterOf, feed, feedAt, numberOf, good, values, filled, lineAt, any, readLine}
+use Rattle.reading.specs.declared.letter.Letter.{Letter}
+use Rattle.reading.specs.declared.letter.Line.{Line}
+use Rattle.reading.specs.declared.Due.{Due}
+use Rattle.reading.specs.declared.Found.the-variants.{Is}
+use Rattle.reading.specs.declared.Reading.the-variants.{Read}
+use Rattle.reading.specs.Letter.{byteOf, countOf, widthOf}
+use Rattle.reading.specs.Reading.{letterOf, feed, feedAt, fieldValue, good, values, filled, any, lineAt}
+use Rattle.line.specs.Alone.{readLine}
 use Rattle.line.specs.Writing.{fieldsOf, lineOf, smallTo, writable, afterWrite}
 use Rattle.line.specs.RoundTrip.{readAs, WrittenReadsBack, ReadWritesBack}
-use Rattle.line.proofs.Fields.{feed-byte, is-number, good-part, good-at, length-values, value-at}
-use Rattle.line.proofs.Lines.{Head, line-read, IsLine, is-line, from-letter}
-use Rattle.line.proofs.Bytes.{count-most, small-at, small-from, fields-snoc, fields-length, length-lineOf, can-write, has-room, laid, answered}
+use Rattle.reading.proofs.Letters.{count-most, plain-letter, from-letter, by-byte}
+use Rattle.reading.proofs.Fields.{feed-byte, is-number, good-part, good-at, length-values, value-at}
+use Rattle.reading.proofs.Lines.{Opening, line-read, IsLine, is-line}
+use Rattle.line.proofs.Bytes.{small-at, small-from, fields-snoc, fields-length, length-lineOf, can-write, has-room, line-written, answered}
 
 -- Read and written again.
 
@@ -38,7 +40,7 @@ unfolding values fieldsOf
 fields-bytes s at zero g = refl
 fields-bytes s at (suc k) g =
     let p = good-part s at k g in
-    let n : ℕ = numberOf (fieldAt s (at + 9 * k)) in
+    let n : ℕ = fieldValue (fieldAt s (at + 9 * k)) in
     let f = written-read s (at + 9 * k) n (is-number (fieldAt s (at + 9 * k)) (p .1)) in
     let e : 9 * suc k ≡ 9 * k + 9 = omega arith in
     ap (λ (i : ℕ). take i (drop at s)) e
@@ -77,7 +79,7 @@ read-small s at due l ns h =
     let k : ℕ = countOf l in
     small-from ns k
     (λ j i.
-    let n : ℕ = numberOf (fieldAt s (at + 1 + 9 * j)) in
+    let n : ℕ = fieldValue (fieldAt s (at + 1 + 9 * j)) in
     let e : getD ns j 0 ≡ n = ap (λ (x : List ℕ). getD x j 0) (h .are) ∙ value-at s (at + 1) k j (replicate (14 - k) 0) i in
     rw e (written-read s (at + 1 + 9 * j) n (good-at s (at + 1) k j (h .fields) i) .small))
 
@@ -85,7 +87,7 @@ pub read-writes-back : (s : List ℕ) → ReadWritesBack s (readLine s)
 read-writes-back s = record {
   width = λ l room z h. sym (answered (line l) 0 room (fits l room z h));
   bytes = λ l lent z h.
-      sym (laid (line l) 0 lent (fits l (length lent) z h))
+      sym (line-written (line l) 0 lent (fits l (length lent) z h))
       ∙ ap (λ (x : List ℕ). put lent 0 x) (sym (read-bytes s 0 any (line l) (is-line s 0 any l z)));
 }
   where
@@ -133,16 +135,6 @@ unfolding Plain fieldsOf
 plain-fields [] = tt
 plain-fields (n ∷ ns) = plain-append (fieldOf n) (fieldsOf ns) (plain-field n) (plain-fields ns)
 
-plain-letter : (l : Letter) → byteOf l ≡ 10 → ⊥
-plain-letter Table e = omega arith
-plain-letter Row e = omega arith
-plain-letter Car e = omega arith
-plain-letter End e = omega arith
-plain-letter CarAccepted e = omega arith
-plain-letter CarRefused e = omega arith
-plain-letter Totals e = omega arith
-plain-letter SheetRefused e = omega arith
-
 -- field j of a run of fields
 field-of : (ns post : List ℕ) (j : ℕ) → j < length ns → take 9 (drop (9 * j) (fieldsOf ns ++ post)) ≡ fieldOf (getD ns j 0)
 unfolding fieldsOf
@@ -167,7 +159,7 @@ all-read s at ns f zero h = (refl, refl)
 all-read s at ns f (suc k) h =
     let r = all-read s at ns f k (omega arith) in
     let e = f k h in
-    (simp (r .0, e), ap (λ (x : List ℕ). x ++ (numberOf (fieldAt s (at + 9 * k)) ∷ [])) (r .1) ∙ ap (λ (x : Field). take k ns ++ (numberOf x ∷ [])) e ∙ sym (take-suc ns k 0 h))
+    (simp (r .0, e), ap (λ (x : List ℕ). x ++ (fieldValue (fieldAt s (at + 9 * k)) ∷ [])) (r .1) ∙ ap (λ (x : Field). take k ns ++ (fieldValue x ∷ [])) e ∙ sym (take-suc ns k 0 h))
 
 -- a line whose bytes stand at a place of s
 module _ (s : List ℕ) (at : ℕ) (l : Line) (post : List ℕ) (n : length (l .numbers) ≡ 14) (d : drop at s ≡ lineOf l ++ post) where
@@ -193,15 +185,15 @@ module _ (s : List ℕ) (at : ℕ) (l : Line) (post : List ℕ) (n : length (l .
   inside : at + (1 + 9 * countOf (l .letter)) < length s
   inside = omega (arith, sym (length-drop at s) ∙ ap length bytes ∙ ap suc (length-append (fieldsOf (take (countOf (l .letter)) (l .numbers))) (10 ∷ post)), columns)
 
-  head : getD s at 0 ≡ byteOf (l .letter)
-  head = ap (λ (i : ℕ). getD s i 0) (sym (add-zero at)) ∙ sym (getD-drop at s 0 0) ∙ ap (λ (x : List ℕ). getD x 0 0) bytes
+  first-byte : getD s at 0 ≡ byteOf (l .letter)
+  first-byte = ap (λ (i : ℕ). getD s i 0) (sym (add-zero at)) ∙ sym (getD-drop at s 0 0) ∙ ap (λ (x : List ℕ). getD x 0 0) bytes
 
   field-there : smallTo (l .numbers) (countOf (l .letter)) ≡ true
       → (j : ℕ) → j < length (take (countOf (l .letter)) (l .numbers)) → fieldAt s (at + 1 + 9 * j) ≡ Number (getD (take (countOf (l .letter)) (l .numbers)) j 0)
   field-there small j h =
       let ns : List ℕ = take (countOf (l .letter)) (l .numbers) in
       let i : j < countOf (l .letter) = omega (arith, count) in
-      let le : getD ns j 0 ≤ 99_999_999 = rw (getD-take (countOf (l .letter)) (l .numbers) j 0 i) (small-at (l .numbers) (countOf (l .letter)) small j i) in
+      let le : getD ns j 0 ≤ largest = rw (getD-take (countOf (l .letter)) (l .numbers) j 0 i) (small-at (l .numbers) (countOf (l .letter)) small j i) in
       read-written s (at + 1 + 9 * j) (getD ns j 0) le
       (ap (λ (x : List ℕ). take 9 x)
       (sym (drop-drop (9 * j) (at + 1) s)
@@ -216,11 +208,11 @@ bytes-read s at due l f small n t =
     let ns : List ℕ = take k (l .numbers) in
     let post : List ℕ = drop (widthOf (l .letter)) (drop at s) in
     let d : drop at s ≡ lineOf l ++ post = sym (take-append-drop (widthOf (l .letter)) (drop at s)) ∙ ap (λ (x : List ℕ). x ++ post) t in
-    let h : Head s at due (at + (1 + 9 * k)) (Is (l .letter)) (l .letter) k =
+    let h : Opening s at due (at + (1 + 9 * k)) (Is (l .letter)) (l .letter) k =
     record {
       place = sym (feed-there s at l post n d);
       within = inside s at l post n d;
-      found = sym (ap (λ (b : ℕ). letterOf b due) (head s at l post n d) ∙ f);
+      found = sym (ap (λ (b : ℕ). letterOf b due) (first-byte s at l post n d) ∙ f);
       letter = refl;
       count = refl;
     } in
@@ -233,6 +225,6 @@ pub written-reads-back : (l : Line) (lent : List ℕ) → length (l .numbers) �
 written-reads-back l lent n = record {
   numbers = λ f e.
       let p = has-room l 0 (length lent) e in
-      ap readLine (sym (laid l 0 lent e))
-      ∙ bytes-read (put lent 0 (lineOf l)) 0 any l f (p .1) n (take-at (lineOf l) (drop (0 + length (lineOf l)) lent) (widthOf (l .letter)) (length-lineOf l n));
+      ap readLine (sym (line-written l 0 lent e))
+      ∙ bytes-read (put lent 0 (lineOf l)) 0 any l (by-byte (l .letter) ∙ simp f) (p .1) n (take-at (lineOf l) (drop (0 + length (lineOf l)) lent) (widthOf (l .letter)) (length-lineOf l n));
 }

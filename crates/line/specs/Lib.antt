@@ -1,4 +1,3 @@
-pub mod Letter
-pub mod Reading
+pub mod Alone
 pub mod Writing
 pub mod RoundTrip

@@ -6,18 +6,18 @@ use mathlib.Core.List.{List, [], _∷_}
 use lib.ListN.{length, take}
 use Rattle.base.specs.Answer.{figures}
 use Rattle.base.specs.Buffer.{put}
-use Rattle.line.specs.declared.letter.Letter.{Letter}
-use Rattle.line.specs.declared.letter.Line.{Line}
-use Rattle.line.specs.declared.reading.Found.the-variants.{Is}
-use Rattle.line.specs.declared.reading.Reading.the-variants.{Read}
-use Rattle.line.specs.declared.reading.LineRead.{LineRead}
-use Rattle.line.specs.Letter.{byteOf, countOf, widthOf}
-use Rattle.line.specs.Reading.{letterOf, any, filled, readLine}
+use Rattle.reading.specs.declared.letter.Letter.{Letter}
+use Rattle.reading.specs.declared.letter.Line.{Line}
+use Rattle.reading.specs.declared.Reading.the-variants.{Read}
+use Rattle.reading.specs.declared.LineRead.{LineRead}
+use Rattle.reading.specs.Letter.{ofSheet, countOf, widthOf}
+use Rattle.reading.specs.Reading.{filled}
+use Rattle.line.specs.Alone.{readLine}
 use Rattle.line.specs.Writing.{writable, writeAnswer, afterWrite}
 
 -- the letter is one of a sheet's
 abbrev pub OfSheet : Letter → Type 0
-OfSheet letter = letterOf (byteOf letter) any ≡ Is letter
+OfSheet letter = ofSheet letter ≡ true
 
 -- the line's letter and its numbers, as reading gives them: 0 in the places that the letter does not use
 abbrev pub readAs : Line → LineRead

@@ -6,11 +6,12 @@ use lib.ListN.{length, getD, take}
 use lib.Dec.{leb}
 use Rattle.base.specs.Answer.{Answer, figures, refusal, answer, refuseIf, first}
 use Rattle.base.specs.Buffer.{put}
-use Rattle.field.specs.Field.{fieldOf, largest}
-use Rattle.line.specs.declared.letter.Line.{Line}
+use Rattle.base.specs.Limits.{largest}
+use Rattle.field.specs.Field.{fieldOf}
+use Rattle.reading.specs.declared.letter.Line.{Line}
 use Rattle.line.specs.declared.writing.Written.{Written}
 use Rattle.line.specs.declared.writing.Written.the-variants.{Length, Refused}
-use Rattle.line.specs.Letter.{byteOf, countOf, widthOf}
+use Rattle.reading.specs.Letter.{byteOf, countOf, widthOf}
 
 unfoldable pub fieldsOf : List ℕ → List ℕ
 fieldsOf [] = []
@@ -20,7 +21,7 @@ fieldsOf (n ∷ ns) = fieldOf n ++ fieldsOf ns
 unfoldable pub lineOf : Line → List ℕ
 lineOf l = byteOf (l .letter) ∷ (fieldsOf (take (countOf (l .letter)) (l .numbers)) ++ (10 ∷ []))
 
--- none of the first k numbers exceeds 99,999,999
+-- none of the first k numbers exceeds the largest
 unfoldable pub smallTo : List ℕ → ℕ → Bool
 smallTo ns zero = true
 smallTo ns (suc k) = cond (smallTo ns k) (leb (getD ns k 0) largest) false
@@ -38,6 +39,6 @@ unfoldable pub afterWrite : Line → ℕ → List ℕ → List ℕ
 afterWrite l at lent = cond (writable l at (length lent)) (put lent at (lineOf l)) lent
 
 -- what the answer of writing tells
-abbrev pub told : Written → Answer
-told (Length n) = figures (n ∷ [])
-told (Refused n) = refusal n
+abbrev pub writtenTold : Written → Answer
+writtenTold (Length n) = figures (n ∷ [])
+writtenTold (Refused n) = refusal n

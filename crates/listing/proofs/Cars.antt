@@ -3,7 +3,7 @@ use Prim.Native.Nat.{ℕ}
 use mathlib.Core.Path.{_≡_}
 use mathlib.Core.List.{List, [], _∷_}
 use lib.ListN.{getD}
-use Rattle.listing.specs.Listing.{carOf}
+use Rattle.car.specs.Car.{carOf}
 
 pub car-same : (ns : List ℕ) {x0 x1 x2 x3 x4 x5 x6 x7 x8 x9 x10 x11 x12 x13 : ℕ} → x0 ≡ getD ns 0 0 → x1 ≡ getD ns 1 0 → x2 ≡ getD ns 2 0 → x3 ≡ getD ns 3 0 → x4 ≡ getD ns 4 0 → x5 ≡ getD ns 5 0 → x6 ≡ getD ns 6 0 → x7 ≡ getD ns 7 0 → x8 ≡ getD ns 8 0 → x9 ≡ getD ns 9 0 → x10 ≡ getD ns 10 0 → x11 ≡ getD ns 11 0 → x12 ≡ getD ns 12 0 → x13 ≡ getD ns 13 0
     → record { number = x0; kind = x1; grade = x2; stick = x3; count = x4; readings = x5 ∷ x6 ∷ x7 ∷ x8 ∷ []; «water_level» = x9; temperature = x10; density = record { 0 = x11 }; water = x12; impurities = x13 } ≡ carOf ns

@@ -1,5 +1,6 @@
-pub mod Laying
+pub mod Appending
 pub mod Cars
 pub mod Lines
 pub mod Run
-pub mod Tied
+pub mod Paper
+pub mod Reconciled

@@ -1,3 +1,4 @@
 pub mod Listing
-pub mod Tied
-pub mod Underway
+pub mod Reconciled
+pub mod Paper
+pub mod Inner

@@ -5,25 +5,36 @@ ghost use mathlib.Core.List.{[], _∷_};
 ghost use Prim.Native.Nat.{_+_, _*_, _≤_, _<_};
 ghost use lib.ListN.{length, getD, take, drop};
 ghost use Rattle.base.specs.Buffer.{put};
-ghost use Rattle.line.specs.Letter.{widthOf};
+ghost use Rattle.reading.specs.Letter.{widthOf};
 ghost use Rattle.line.specs.Writing.{lineOf, writable};
-ghost use Rattle.table.specs.Held.{tablesOf};
-ghost use Rattle.train.specs.Car.{told};
+ghost use Rattle.base.specs.Limits.{largest, mostCars};
+ghost use Rattle.table.specs.Layout.{tablesOf};
+ghost use Rattle.car.specs.Car.{carOf, carTold};
 ghost use Rattle.train.specs.Train.{emptyTrain};
-ghost use Rattle.sheet.specs.Sheet.{sheetOf};
-ghost use Rattle.sheet.specs.Held.{carsOf};
-ghost use Rattle.listing.specs.Listing.{carOf, carLine, totalsLine, refusedLine, listing, replyOf, afterAnswer};
-ghost use Rattle.listing.specs.Tied.{Tied};
-ghost use Rattle.listing.specs.Underway.{Ready};
-use line::Letter;
-use line::Line;
+ghost use Rattle.grammar.specs.Text.{textOf};
+ghost use Rattle.grammar.specs.Sheet.{sheetOf};
+ghost use Rattle.grammar.specs.ByGrammar.{ReadByGrammar};
+ghost use Rattle.sheet.specs.Layout.{carsOf};
+ghost use Rattle.listing.specs.Listing.{itemsOf, answerLine, totalsLine, sheetRefusedLine, linesFrom, leastBuffer, replyOf, afterAnswer};
+ghost use Rattle.listing.specs.Reconciled.{SheetReconciled};
+ghost use Rattle.listing.specs.Paper.{PaperExample};
+ghost use Rattle.listing.specs.Inner.{Ready};
+use base::MOST_CARS;
+use car::Car;
+use car::CarAnswer;
 use line::Written;
-use mass::Density15;
+use reading::Letter;
+use reading::Line;
+use reading::MOST_FIELDS;
+use sheet::CAR_NUMBERS;
 use sheet::Outcome;
 use table::Directory;
-use train::Car;
-use train::CarAnswer;
+use table::PLACES;
+use thermal::Density15;
 use train::Train;
+
+// The longest answer, in bytes, and so the least buffer: a line for each of sixty cars, and S.
+pub const LEAST_BUFFER: usize = MOST_CARS * reading::CAR_ACCEPTED_BYTES + reading::TOTALS_BYTES;
 
 // The answer's length in bytes, and the number of the refusal: 1 for too short a buffer, else the sheet's, 0 where it has none.
 pub struct Reply {
@@ -32,16 +43,16 @@ pub struct Reply {
 }
 
 // Number j of car i of the sheet, whose fourteen numbers stand from 14 i on.
-fn number_at(fields: &[u32; 840], i: usize, j: usize) -> u32
-    requires { ⌜ (i < 60) × (j < 14) ⌝ }
+fn number_at(fields: &[u32; CAR_NUMBERS], i: usize, j: usize) -> u32
+    requires { ⌜ (i < mostCars) × (j < 14) ⌝ }
     ensures { λ r. ⌜ r ≡ getD (take 14 (drop (14 * i) (now (fields .entry)))) j 0 ⌝ }
 {
     fields[14 * i + j]
 }
 
 // Car i of the sheet.
-fn car_at(fields: &[u32; 840], i: usize) -> Car
-    requires { ⌜ i < 60 ⌝ }
+fn car_at(fields: &[u32; CAR_NUMBERS], i: usize) -> Car
+    requires { ⌜ i < mostCars ⌝ }
     ensures { λ r. ⌜ r ≡ carOf (take 14 (drop (14 * i) (now (fields .entry)))) ⌝ }
 {
     Car {
@@ -64,11 +75,11 @@ fn car_at(fields: &[u32; 840], i: usize) -> Car
     }
 }
 
-// The A or X line of a car.
-fn car_line(car: Car, answer: CarAnswer) -> Line
-    ensures { λ r. ⌜ r ≡ carLine car (told answer) ⌝ }
+// The A or X line of the car of this number.
+fn answer_line(number: u32, answer: CarAnswer) -> Line
+    ensures { λ r. ⌜ r ≡ answerLine number (carTold answer) ⌝ }
 {
-    let mut numbers = [0u32; 14];
+    let mut numbers = [0u32; MOST_FIELDS];
     match answer {
         CarAnswer::Accepted(f) => {
             numbers[0] = f.number;
@@ -83,7 +94,7 @@ fn car_line(car: Car, answer: CarAnswer) -> Line
             }
         }
         CarAnswer::Refused(n) => {
-            numbers[0] = car.number;
+            numbers[0] = number;
             numbers[1] = n;
             Line {
                 letter: Letter::CarRefused,
@@ -95,10 +106,10 @@ fn car_line(car: Car, answer: CarAnswer) -> Line
 
 // The S line of a train.
 fn totals_line(train: Train) -> Line
-    requires { ⌜ (train .gross ≤ 99_999_999) × (train .net ≤ 99_999_999) ⌝ }
+    requires { ⌜ (train .gross ≤ largest) × (train .net ≤ largest) ⌝ }
     ensures { λ r. ⌜ r ≡ totalsLine train ⌝ }
 {
-    let mut numbers = [0u32; 14];
+    let mut numbers = [0u32; MOST_FIELDS];
     numbers[0] = train.accepted;
     numbers[1] = train.gross as u32;
     numbers[2] = train.net as u32;
@@ -109,7 +120,7 @@ fn totals_line(train: Train) -> Line
 }
 
 // Writes a line that has room from `at` on, and answers the place behind it.
-fn lay(out: &mut [u8], at: usize, text: Line) -> usize
+fn append_line(out: &mut [u8], at: usize, text: Line) -> usize
     requires { ⌜ writable text at (length (now out)) ≡ true ⌝ }
     ensures { λ r. ⌜ (r ≡ at + widthOf (text .letter)) × (now (out .exit) ≡ put (now (out .entry)) at (lineOf text)) ⌝ }
 {
@@ -123,15 +134,15 @@ fn lay(out: &mut [u8], at: usize, text: Line) -> usize
 fn write_listing(
     out: &mut [u8],
     d: Directory,
-    levels: &[u32; 1600],
-    capacities: &[u32; 1600],
-    fields: &[u32; 840],
+    levels: &[u32; PLACES],
+    capacities: &[u32; PLACES],
+    fields: &[u32; CAR_NUMBERS],
     cars: usize,
 ) -> usize
     requires { ⌜ Ready d (now levels) (now capacities) (now fields) cars (length (now out)) ⌝ }
     ensures { λ r. ⌜
-        (r ≡ length (listing (tablesOf d (now (levels .entry)) (now (capacities .entry))) (carsOf (now (fields .entry)) cars)))
-        × (now (out .exit) ≡ put (now (out .entry)) 0 (listing (tablesOf d (now (levels .entry)) (now (capacities .entry))) (carsOf (now (fields .entry)) cars)))
+        (r ≡ length (textOf (linesFrom emptyTrain (itemsOf (tablesOf d (now (levels .entry)) (now (capacities .entry))) (carsOf (now (fields .entry)) cars)))))
+        × (now (out .exit) ≡ put (now (out .entry)) 0 (textOf (linesFrom emptyTrain (itemsOf (tablesOf d (now (levels .entry)) (now (capacities .entry))) (carsOf (now (fields .entry)) cars)))))
         ⌝ }
 {
     let mut running = Train::empty();
@@ -142,21 +153,21 @@ fn write_listing(
         let step = train::enter_on(running, d, levels, capacities, car);
         let answer = step.answer;
         running = step.train;
-        at = lay(out, at, car_line(car, answer));
+        at = append_line(out, at, answer_line(car.number, answer));
         i += 1;
     }
-    lay(out, at, totals_line(running))
+    append_line(out, at, totals_line(running))
 }
 
 // Writes the Z line: the line number and the refusal.
 fn write_refused(out: &mut [u8], line: u32, number: u32) -> usize
-    requires { ⌜ (3_389 ≤ length (now out)) × (line ≤ 99_999_999) × (number ≤ 99_999_999) ⌝ }
-    ensures { λ r. ⌜ (r ≡ length (lineOf (refusedLine line number))) × (now (out .exit) ≡ put (now (out .entry)) 0 (lineOf (refusedLine line number))) ⌝ }
+    requires { ⌜ (leastBuffer ≤ length (now out)) × (line ≤ largest) × (number ≤ largest) ⌝ }
+    ensures { λ r. ⌜ (r ≡ length (textOf (sheetRefusedLine line number ∷ []))) × (now (out .exit) ≡ put (now (out .entry)) 0 (textOf (sheetRefusedLine line number ∷ []))) ⌝ }
 {
-    let mut numbers = [0u32; 14];
+    let mut numbers = [0u32; MOST_FIELDS];
     numbers[0] = line;
     numbers[1] = number;
-    lay(
+    append_line(
         out,
         0,
         Line {
@@ -172,18 +183,18 @@ pub fn answer_sheet(text: &[u8], out: &mut [u8]) -> Reply
     ensures { λ r. ⌜
         (r ≡ replyOf (now (text .entry)) (length (now (out .entry))))
         × (now (out .exit) ≡ afterAnswer (now (text .entry)) (now (out .entry)))
-        × (r .length ≤ 3_389) × Tied (sheetOf (now (text .entry)))
+        × (r .length ≤ leastBuffer) × SheetReconciled (sheetOf (now (text .entry))) × PaperExample × ReadByGrammar (now (text .entry))
         ⌝ }
 {
-    if out.len() < 3_389 {
+    if out.len() < LEAST_BUFFER {
         return Reply {
             length: 0,
             number: 1,
         };
     }
-    let mut levels = [0u32; 1600];
-    let mut capacities = [0u32; 1600];
-    let mut fields = [0u32; 840];
+    let mut levels = [0u32; PLACES];
+    let mut capacities = [0u32; PLACES];
+    let mut fields = [0u32; CAR_NUMBERS];
     let head = sheet::read_sheet(text, &mut levels, &mut capacities, &mut fields);
     let outcome = head.outcome;
     match outcome {

@@ -6,19 +6,19 @@ use Rattle.base.proofs.Rounding.{round-mono}
 use Rattle.mass.specs.Steps
 
 module _ {v w : ℕ} (h : v ≤ w) where
-  pub hotVolume-mono : (c t : ℕ) → Steps.hotVolume v c t ≤ Steps.hotVolume w c t
+  hotVolume-mono : (c t : ℕ) → Steps.hotVolume v c t ≤ Steps.hotVolume w c t
   unfolding Steps.hotVolume
   hotVolume-mono c t = round-mono _ (omega arith) (mul-le-mul-right _ h)
 
-  pub coldVolume-mono : (r t : ℕ) → Steps.coldVolume v r t ≤ Steps.coldVolume w r t
+  coldVolume-mono : (r t : ℕ) → Steps.coldVolume v r t ≤ Steps.coldVolume w r t
   unfolding Steps.coldVolume
   coldVolume-mono r t = round-mono _ (omega arith) (mul-le-mul-right _ h)
 
-  pub gross-mono : (r : ℕ) → Steps.gross v r ≤ Steps.gross w r
+  gross-mono : (r : ℕ) → Steps.gross v r ≤ Steps.gross w r
   unfolding Steps.gross
   gross-mono r = round-mono _ (omega arith) (mul-le-mul-right r h)
 
-  pub net-mono : (a i : ℕ) → Steps.net v a i ≤ Steps.net w a i
+  net-mono : (a i : ℕ) → Steps.net v a i ≤ Steps.net w a i
   unfolding Steps.net
   net-mono a i = round-mono _ (omega arith) (mul-le-mul-right _ h)
 

@@ -1,34 +1,19 @@
-// Fuel oil from V0 to kilograms: steps 3 to 9 of document 01, the grades' limits, and what callers may ask of a car's fields alone.
+// Fuel oil from V0 to kilograms: steps 3, 7 and 8 of document 01 in 64-bit arithmetic, each equal to its definition in specs/Steps.antt.
+// Volumes are in 0.01 dm³, temperatures in 0.1 °C, masses in kg, water and impurities in 0.01 %.
 ghost use mathlib.Core.Path.{_≡_};
-ghost use Rattle.mass.specs.Answers.{
-  expansionTold,
-  expansionAnswer,
-  factorTold,
-  factorAnswer,
-  density20Told,
-  density20Answer,
-  gradeDensity20Answer,
-  oilTold,
-  gradeOilAnswer,
-  oilAnswer,
+ghost use Prim.Native.Nat.{_≤_};
+ghost use Rattle.thermal.specs.Inner.{DensityInRange};
+ghost use Rattle.thermal.specs.Limits.{lowestTemperature, highestTemperature};
+ghost use Rattle.mass.specs.Steps;
+ghost use Rattle.mass.specs.Distance.{greatestVolume};
+ghost use Rattle.mass.specs.Inner.{
+  InRange,
+  MassesWorked,
+  mostCoefficient,
+  mostHotVolume,
+  mostColdVolume,
 };
-
-mod grades;
-mod steps;
-
-// For the crate that works out a whole car: refusals by their numbers, and steps 3 to 8 in a row.
-pub use grades::content_refusal;
-pub use grades::density_20_refusal;
-pub use grades::density_refusal;
-pub use grades::grade_and_stick_refusal;
-pub use grades::temperature_refusal;
-pub use steps::masses_of;
-pub use steps::wall_coefficient;
-
-// A density at 15 °C and a density at 20 °C, in 0.1 kg/m³, each a type of its own: one is never taken for the other.
-pub struct Density15(pub u32);
-
-pub struct Density20(pub u32);
+use thermal::Density15;
 
 // V15 in 0.01 dm³, gross and net in kg.
 pub struct Masses {
@@ -37,108 +22,70 @@ pub struct Masses {
     pub net: u32,
 }
 
-// B in 10⁻⁹ per °C, or a refusal.
-pub enum Expansion {
-    Billionths(u32),
-    Refused(u32),
-}
-
-// E in 10⁻¹⁰, or a refusal.
-pub enum Factor {
-    TenBillionths(u64),
-    Refused(u32),
-}
-
-// The density at 20 °C, or a refusal.
-pub enum DensityAt20 {
-    Density(Density20),
-    Refused(u32),
-}
-
-// What is left beside water and impurities, in 0.01 %, or a refusal.
-pub enum OilShare {
-    Hundredths(u32),
-    Refused(u32),
-}
-
-// B of step 4, or 19.
-pub fn expansion_of(density: Density15) -> Expansion
-    ensures { λ r. ⌜ expansionTold r ≡ expansionAnswer (density .0) ⌝ }
+// Step 3: c for a stick; 0 for a stick that there is not.
+fn stick_coefficient(stick: u32) -> u32
+    ensures { λ r. ⌜ r ≡ Steps.stickCoefficient stick ⌝ }
 {
-    let refusal = grades::density_refusal(density);
-    if refusal != 0 {
-        return Expansion::Refused(refusal);
+    if stick == 1 {
+        return 100;
     }
-    Expansion::Billionths(steps::expansion(density))
+    if stick == 2 {
+        return 121;
+    }
+    0
 }
 
-// E of step 6 between the temperature, in 0.1 °C, and 15 °C, or the first of 18 and 19.
-pub fn factor_of(density: Density15, temperature: u32) -> Factor
-    ensures { λ r. ⌜ factorTold r ≡ factorAnswer (density .0) temperature ⌝ }
+// Step 3: Vt.
+fn hot_volume(v0: u32, c: u32, temperature: u32) -> u32
+    requires { ⌜ (v0 ≤ greatestVolume) × (c ≤ mostCoefficient) × (lowestTemperature ≤ temperature) × (temperature ≤ highestTemperature) ⌝ }
+    ensures { λ r. ⌜ r ≡ Steps.hotVolume v0 c temperature ⌝ }
 {
-    let by_temperature = grades::temperature_refusal_any_grade(temperature);
-    if by_temperature != 0 {
-        return Factor::Refused(by_temperature);
-    }
-    let by_density = grades::density_refusal(density);
-    if by_density != 0 {
-        return Factor::Refused(by_density);
-    }
-    Factor::TenBillionths(steps::factor(density, temperature - 150))
+    let swelling = 20_000_000 + (c * (temperature - 200)) as u64;
+    base::round_half_up(v0 as u64 * swelling, 20_000_000) as u32
 }
 
-// The density at 20 °C of step 9, or 19.
-pub fn density_at_20(density: Density15) -> DensityAt20
-    ensures { λ r. ⌜ density20Told r ≡ density20Answer (density .0) ⌝ }
+// Step 7: V15.
+fn cold_volume(vt: u32, density: Density15, temperature: u32) -> u32
+    requires { ⌜ (vt ≤ mostHotVolume) × DensityInRange (density .0) × (lowestTemperature ≤ temperature) × (temperature ≤ highestTemperature) ⌝ }
+    ensures { λ r. ⌜ r ≡ Steps.coldVolume vt (density .0) temperature ⌝ }
 {
-    let refusal = grades::density_refusal(density);
-    if refusal != 0 {
-        return DensityAt20::Refused(refusal);
-    }
-    DensityAt20::Density(steps::density_20(density))
+    base::round_half_up(
+        vt as u64 * thermal::factor_at(density, temperature - 150),
+        thermal::UNITY,
+    ) as u32
 }
 
-// The same for a grade, or the first of 13, 19 and 21.
-pub fn density_at_20_of_grade(grade: u32, density: Density15) -> DensityAt20
-    ensures { λ r. ⌜ density20Told r ≡ gradeDensity20Answer grade (density .0) ⌝ }
+// Step 8: gross kg.
+fn gross_mass(v15: u32, density: Density15) -> u32
+    requires { ⌜ (v15 ≤ mostColdVolume) × DensityInRange (density .0) ⌝ }
+    ensures { λ r. ⌜ r ≡ Steps.gross v15 (density .0) ⌝ }
 {
-    let by_grade = grades::grade_refusal(grade);
-    if by_grade != 0 {
-        return DensityAt20::Refused(by_grade);
-    }
-    let by_density = grades::density_refusal(density);
-    if by_density != 0 {
-        return DensityAt20::Refused(by_density);
-    }
-    let by_density_20 = grades::density_20_refusal(grade, density);
-    if by_density_20 != 0 {
-        return DensityAt20::Refused(by_density_20);
-    }
-    DensityAt20::Density(steps::density_20(density))
+    base::round_half_up(v15 as u64 * density.0 as u64, 1_000_000) as u32
 }
 
-// What is left beside water and impurities, in 0.01 %, or the first of 13 and 20.
-pub fn oil_share(grade: u32, water: u32, impurities: u32) -> OilShare
-    ensures { λ r. ⌜ oilTold r ≡ gradeOilAnswer grade water impurities ⌝ }
+// Step 8: net kg.
+fn net_mass(gross: u32, water: u32, impurities: u32) -> u32
+    ensures { λ r. ⌜ r ≡ Steps.net gross water impurities ⌝ }
 {
-    let by_grade = grades::grade_refusal(grade);
-    if by_grade != 0 {
-        return OilShare::Refused(by_grade);
-    }
-    let by_content = grades::content_refusal(grade, water, impurities);
-    if by_content != 0 {
-        return OilShare::Refused(by_content);
-    }
-    OilShare::Hundredths(10_000 - water - impurities)
+    let oil = grades::share_of_oil(water, impurities);
+    base::round_half_up(gross as u64 * oil as u64, 10_000) as u32
 }
 
-// The same where no grade is given, or 20.
-pub fn oil_share_any_grade(water: u32, impurities: u32) -> OilShare
-    ensures { λ r. ⌜ oilTold r ≡ oilAnswer water impurities ⌝ }
+// Steps 3 to 8: V15, gross and net from V0.
+pub fn masses_of(
+    v0: u32,
+    stick: u32,
+    temperature: u32,
+    density: Density15,
+    water: u32,
+    impurities: u32,
+) -> Masses
+    requires { ⌜ InRange v0 temperature (density .0) water impurities ⌝ }
+    ensures { λ m. ⌜ MassesWorked v0 stick temperature (density .0) water impurities m ⌝ }
 {
-    let refusal = grades::content_refusal_any_grade(water, impurities);
-    if refusal != 0 {
-        return OilShare::Refused(refusal);
-    }
-    OilShare::Hundredths(10_000 - water - impurities)
+    let vt = hot_volume(v0, stick_coefficient(stick), temperature);
+    let v15 = cold_volume(vt, density, temperature);
+    let gross = gross_mass(v15, density);
+    let net = net_mass(gross, water, impurities);
+    Masses { v15, gross, net }
 }

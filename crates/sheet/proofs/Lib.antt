@@ -1,7 +1,4 @@
+pub mod Arrays
+pub mod Room
 pub mod Held
-pub mod Rules
-pub mod Passed
-pub mod Steps
-pub mod Lines
-pub mod Rows
-pub mod Examples
+pub mod Taken

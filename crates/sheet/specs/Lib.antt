@@ -1,4 +1,2 @@
-pub mod Sheet
-pub mod Held
-pub mod Proper
-pub mod Underway
+pub mod Layout
+pub mod Inner

@@ -1,7 +1,3 @@
 pub mod Table
-pub mod Held
+pub mod Arrays
 pub mod Rising
-pub mod Capacity
-pub mod Search
-pub mod Answers
-pub mod AgainstCard

@@ -1,100 +1,101 @@
--- The verdict on tables: what a table that is passed, and tables that are accepted, have.
+-- The tests of tables: their numbers, what a table that is passed has, and one more row.
 use Prim.Native.Nat.{ℕ, _≤_, _<_}
-use mathlib.Core.Path.{_≡_, refl, ap, _∙_}
-use mathlib.Core.Bool.{Bool, true, false, cond, _||_, true≢false}
+use mathlib.Core.Path.{_≡_, refl}
+use mathlib.Core.Bool.{Bool, true, false, cond, true≢false}
 use mathlib.Core.List.{List, [], _∷_, _++_}
-use native.Mathlib.Omega.{arith}
 use lib.ListN.{length}
-use lib.Dec.{leb, eqb}
+use lib.Dec.{eqb}
 use borrow.Author.Tests.{leb-false}
-use Rattle.base.specs.Answer.{Verdict, accepts, refuses, refuseIf, first, numberOf}
-use Rattle.base.specs.Numbers.{outside, member}
-use Rattle.base.proofs.Choice.{neither}
+use Rattle.base.specs.Answer.{Verdict, accepts, refuses, first}
+use Rattle.base.specs.Limits.{mostTables, mostRows}
+use Rattle.base.proofs.Choice.{never, neither}
 use Rattle.base.proofs.Numbers.{inside}
-use Rattle.base.proofs.Answer.{first-one, accepted-first, accepted-if, Proper, proper-if, proper-first, proper-pass, refused-first}
-use Rattle.table.specs.Table.{Row, rowOf, Table, headBad, firstBad, laterBad, laterVerdict, rowsVerdict, tablesAfter, tablesVerdict}
-use Rattle.table.specs.Capacity.{unknown, rowsOf}
+use Rattle.base.proofs.Answer.{numbered, numbered-append, accepted-append, accepted-parts}
+use Rattle.table.specs.Table.{Row, rowOf, Table, tableLineBad, firstRowBad, laterRowBad, rowBad, laterTests, rowsTests, tablesTestsAfter, tablesTests, tablesVerdict, unknown, rowsOf}
 
 -- line by line: a bad row of the first table comes before a bad type of the second
 row-before-type :
     tablesVerdict (record { kind = 1; rows = rowOf 0 0 ∷ rowOf 0 1 ∷ [] } ∷ record { kind = 0; rows = rowOf 0 0 ∷ rowOf 1 1 ∷ [] } ∷ []) ≡ refuses 8
 row-before-type = refl
 
--- Tables that are passed or not, one by one.
+-- Each test has the number of a refusal.
 
-proper-later : (before : Row) (rows : List Row) → Proper (laterVerdict before rows)
-proper-later before [] = λ e. refl
-proper-later before (row ∷ rows) = proper-pass 8 (laterBad before row) (laterVerdict row rows) (omega arith) (proper-later row rows)
+later-numbered : (before : Row) (rows : List Row) → numbered (laterTests before rows) ≡ true
+later-numbered before [] = refl
+later-numbered before (row ∷ rows) = later-numbered row rows
 
-proper-rows : (rows : List Row) → Proper (rowsVerdict rows)
-proper-rows [] = λ e. refl
-proper-rows (row ∷ rows) = proper-pass 8 (firstBad row) (laterVerdict row rows) (omega arith) (proper-later row rows)
+pub rows-numbered : (rows : List Row) → numbered (rowsTests rows) ≡ true
+rows-numbered [] = refl
+rows-numbered (row ∷ rows) = later-numbered row rows
 
-pub proper-tables : (used : List ℕ) (ts : List Table) → Proper (tablesAfter used ts)
-proper-tables used [] = λ e. refl
-proper-tables used (t ∷ ts) =
-    let more = tablesAfter (used ++ (t .kind ∷ [])) ts in
-    let bad = headBad used (t .kind) (length (t .rows)) in
-    proper-first (refuseIf 7 bad) (rowsVerdict (t .rows) ∷ more ∷ []) (proper-if 7 bad (omega arith))
-    (proper-first (rowsVerdict (t .rows)) (more ∷ []) (proper-rows (t .rows))
-    (proper-first more [] (proper-tables (used ++ (t .kind ∷ [])) ts) (λ e. refl)))
+numbered-after : (used : List ℕ) (ts : List Table) → numbered (tablesTestsAfter used ts) ≡ true
+numbered-after used [] = refl
+numbered-after used (t ∷ ts) =
+    numbered-append (rowsTests (t .rows)) (tablesTestsAfter (used ++ (t .kind ∷ [])) ts) (rows-numbered (t .rows)) (numbered-after (used ++ (t .kind ∷ [])) ts)
 
+pub tables-numbered : (ts : List Table) → numbered (tablesTests ts) ≡ true
+tables-numbered ts = numbered-after [] ts
+
+-- Tests that are passed.
+
+-- a test, and the verdict of those that follow it
+pub passing : (n : ℕ) (b : Bool) (v : Verdict) → cond b (refuses n) v ≡ accepts → (b ≡ false) × (v ≡ accepts)
+passing n true v e = never (cc)
+passing n false v e = (refl, e)
+
+-- a T line that 7 does not refuse
+pub record TableLine (used : List ℕ) (kind rows : ℕ) : Type 0 where
+  pub named : 1 ≤ kind
+  pub few : length used < mostTables
+  pub two : 2 ≤ rows
+  pub most : rows ≤ mostRows
+
+pub table-line-good : (used : List ℕ) (kind rows : ℕ) → tableLineBad used kind rows ≡ false → TableLine used kind rows
+table-line-good used kind rows e =
+    let a = neither _ _ e in
+    let b = neither _ _ (a .0) in
+    let r = inside 2 mostRows rows (b .1) in
+    record { named = inside 1 9_999 kind (neither _ _ (b .0) .0) .0; few = leb-false mostTables (length used) (a .1); two = r .0; most = r .1 }
+
+-- an accepted table and those that follow it
 module _ (used : List ℕ) (t : Table) (ts : List Table) where
-  pub head-refused : headBad used (t .kind) (length (t .rows)) ≡ true → tablesAfter used (t ∷ ts) ≡ refuses 7
-  head-refused e = ap (λ (b : Bool). first (refuseIf 7 b ∷ rowsVerdict (t .rows) ∷ tablesAfter (used ++ (t .kind ∷ [])) ts ∷ [])) e
+  pub record Next : Type 0 where
+    pub line : TableLine used (t .kind) (length (t .rows))
+    pub good : first (rowsTests (t .rows)) ≡ accepts
+    pub rest : first (tablesTestsAfter (used ++ (t .kind ∷ [])) ts) ≡ accepts
 
-  head-passed : headBad used (t .kind) (length (t .rows)) ≡ false →
-      tablesAfter used (t ∷ ts) ≡ first (rowsVerdict (t .rows) ∷ tablesAfter (used ++ (t .kind ∷ [])) ts ∷ [])
-  head-passed e = ap (λ (b : Bool). first (refuseIf 7 b ∷ rowsVerdict (t .rows) ∷ tablesAfter (used ++ (t .kind ∷ [])) ts ∷ [])) e
+  pub next-table : first (tablesTestsAfter used (t ∷ ts)) ≡ accepts → Next
+  next-table e =
+      let p = passing 7 _ _ e in
+      let q = accepted-parts (tablesTestsAfter (used ++ (t .kind ∷ [])) ts) (rowsTests (t .rows)) (p .1) in
+      record { line = table-line-good used _ _ (p .0); good = q .0; rest = q .1 }
 
-  pub rows-refused : headBad used (t .kind) (length (t .rows)) ≡ false → (numberOf (rowsVerdict (t .rows)) ≡ 0 → ⊥)
-      → numberOf (tablesAfter used (t ∷ ts)) ≡ numberOf (rowsVerdict (t .rows))
-  rows-refused e h = ap numberOf (head-passed e ∙ refused-first (rowsVerdict (t .rows)) (tablesAfter (used ++ (t .kind ∷ [])) ts ∷ []) h)
+  pub table-passed : tableLineBad used (t .kind) (length (t .rows)) ≡ false → first (rowsTests (t .rows)) ≡ accepts
+      → first (tablesTestsAfter used (t ∷ ts)) ≡ first (tablesTestsAfter (used ++ (t .kind ∷ [])) ts)
+  table-passed e h = rw e (accepted-append (tablesTestsAfter (used ++ (t .kind ∷ [])) ts) (rowsTests (t .rows)) h)
 
-  pub table-passed : headBad used (t .kind) (length (t .rows)) ≡ false → numberOf (rowsVerdict (t .rows)) ≡ 0
-      → tablesAfter used (t ∷ ts) ≡ tablesAfter (used ++ (t .kind ∷ [])) ts
-  table-passed e h =
-      head-passed e
-      ∙ ap (λ (v : Verdict). first (v ∷ tablesAfter (used ++ (t .kind ∷ [])) ts ∷ [])) (proper-rows (t .rows) h)
-      ∙ first-one (tablesAfter (used ++ (t .kind ∷ [])) ts)
+-- one more row behind rows that are passed
+later-more : (before : Row) (rows : List Row) (row : Row) → first (laterTests before rows) ≡ accepts → rowBad (before ∷ rows) row ≡ false
+    → first (laterTests before (rows ++ (row ∷ []))) ≡ accepts
+later-more before [] row e h = rw h
+later-more before (next ∷ rows) row e h = let p = passing 8 (laterRowBad before next) _ e in rw (p .0) (later-more next rows row (p .1) h)
 
--- What an accepted table has.
+pub rows-more : (rows : List Row) (row : Row) → first (rowsTests rows) ≡ accepts → rowBad rows row ≡ false
+    → first (rowsTests (rows ++ (row ∷ []))) ≡ accepts
+rows-more [] row e h = rw h
+rows-more (before ∷ rows) row e h = let p = passing 8 (firstRowBad before) _ e in rw (p .0) (later-more before rows row (p .1) h)
 
-pub record Next (used : List ℕ) (t : Table) (ts : List Table) : Type 0 where
-  pub few : length used < 4
-  pub two : 2 ≤ length (t .rows)
-  pub most : length (t .rows) ≤ 400
-  pub good : rowsVerdict (t .rows) ≡ accepts
-  pub rest : tablesAfter (used ++ (t .kind ∷ [])) ts ≡ accepts
+-- The rows of the table that has a type.
 
-pub next-table : (used : List ℕ) (t : Table) (ts : List Table) → tablesAfter used (t ∷ ts) ≡ accepts → Next used t ts
-next-table used t ts e =
-    let n = length (t .rows) in
-    let more = tablesAfter (used ++ (t .kind ∷ [])) ts in
-    let bad = headBad used (t .kind) n in
-    let p = accepted-first (refuseIf 7 bad) (rowsVerdict (t .rows) ∷ more ∷ []) e in
-    let q = accepted-first (rowsVerdict (t .rows)) (more ∷ []) (p .1) in
-    let a = neither (outside 1 9_999 (t .kind) || member (t .kind) used || outside 2 400 n) (leb 4 (length used)) (accepted-if 7 bad (p .0)) in
-    let b = neither (outside 1 9_999 (t .kind) || member (t .kind) used) (outside 2 400 n) (a .0) in
-    let c = inside 2 400 n (b .1) in
-    record {
-      few = leb-false 4 (length used) (a .1);
-      two = c .0;
-      most = c .1;
-      good = q .0;
-      rest = accepted-first more [] (q .1) .0;
-    }
-
--- the rows of the table that has a type
 pub record GoodRows (rows : List Row) : Type 0 where
-  pub good : rowsVerdict rows ≡ accepts
+  pub good : first (rowsTests rows) ≡ accepts
   pub two : 2 ≤ length rows
 
-good-after : (kind : ℕ) (used : List ℕ) (ts : List Table) → tablesAfter used ts ≡ accepts → unknown kind ts ≡ false → GoodRows (rowsOf kind ts)
+good-after : (kind : ℕ) (used : List ℕ) (ts : List Table) → first (tablesTestsAfter used ts) ≡ accepts → unknown kind ts ≡ false → GoodRows (rowsOf kind ts)
 good-after kind used [] e u = absurd (true≢false u)
 good-after kind used (t ∷ ts) e u =
     let n = next-table used t ts e in
-    either (eqb (t .kind) kind) (unknown kind ts) (t .rows) (rowsOf kind ts) u (record { good = n .good; two = n .two })
+    either (eqb (t .kind) kind) (unknown kind ts) (t .rows) (rowsOf kind ts) u (record { good = n .good; two = n .line .two })
     (λ v. good-after kind (used ++ (t .kind ∷ [])) ts (n .rest) v)
   where
     either : (b u : Bool) (x y : List Row) → cond b false u ≡ false → GoodRows x → (u ≡ false → GoodRows y) → GoodRows (cond b x y)

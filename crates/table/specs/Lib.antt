@@ -1,4 +1,3 @@
 pub mod Table
-pub mod Capacity
-pub mod Exact
-pub mod Held
+pub mod Layout
+pub mod Inner

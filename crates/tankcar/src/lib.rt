@@ -15,34 +15,36 @@ pub use level::MeanLevel;
 pub use level::mean_level;
 pub use level::tape_allowance;
 
-// Capacity tables and V0.
+// Capacity tables and V0; PLACES rows have room in the arrays that are lent.
+pub use capacity::Volume;
+pub use capacity::checked_volume;
 pub use table::Directory;
-pub use table::Volume;
+pub use table::PLACES;
 pub use table::check_tables;
-pub use table::checked_volume;
 
 // Temperature corrections and limits of a car's fields.
-pub use mass::Density15;
-pub use mass::Density20;
-pub use mass::DensityAt20;
-pub use mass::Expansion;
-pub use mass::Factor;
-pub use mass::OilShare;
-pub use mass::density_at_20;
-pub use mass::density_at_20_of_grade;
-pub use mass::expansion_of;
-pub use mass::factor_of;
-pub use mass::oil_share;
-pub use mass::oil_share_any_grade;
+pub use grades::OilShare;
+pub use grades::density_at_20_of_grade;
+pub use grades::oil_share;
+pub use grades::oil_share_any_grade;
+pub use thermal::Density15;
+pub use thermal::Density20;
+pub use thermal::DensityAt20;
+pub use thermal::Expansion;
+pub use thermal::Factor;
+pub use thermal::density_at_20;
+pub use thermal::expansion_of;
+pub use thermal::factor_of;
 
 // A car and the running train: `Train::empty`, `Train::enter`.
-pub use train::Car;
-pub use train::CarAnswer;
-pub use train::Figures;
+pub use car::Car;
+pub use car::CarAnswer;
+pub use car::Figures;
 pub use train::Step;
 pub use train::Train;
 pub use train::work_out;
 
-// A sheet answered.
+// A sheet answered; LEAST_BUFFER bytes are the least answer buffer.
+pub use listing::LEAST_BUFFER;
 pub use listing::Reply;
 pub use listing::answer_sheet;

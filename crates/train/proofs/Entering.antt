@@ -1,94 +1,80 @@
 -- Laws of entering a car: when a train takes one more, and what the car's own answer makes of the train.
-use Prim.Native.Nat.{ℕ, _≤_}
+use Prim.Native.Nat.{ℕ}
 use mathlib.Core.Path.{_≡_, refl, ap, sym, _∙_}
 use mathlib.Core.Bool.{false, _||_}
-use mathlib.Core.List.{List, [], _∷_}
-use native.Mathlib.Omega.{arith}
+use mathlib.Core.List.{List}
 use lib.Dec.{leb, ltb}
-use borrow.Author.Tests.{le-ltb, lt-leb, leb-false, ltb-false}
-use Rattle.base.specs.Answer.{Verdict, accepts, refuses, refuseIf, first, numberOf, refusal, answer}
-use Rattle.base.specs.Numbers.{member}
+use borrow.Author.Tests.{leb-false, ltb-false}
+use Rattle.base.specs.Limits.{mostCars}
+use Rattle.base.specs.Answer.{Verdict, accepts, refuses, first, firstNumber, refusal, answer}
 use Rattle.base.proofs.Choice.{never, neither}
-use Rattle.base.proofs.Answer.{accepted-if, by-number, first-one, accepted-first, Proper, proper-if, proper-each}
-use Rattle.table.specs.Table.{Table, tablesVerdict}
-use Rattle.train.specs.declared.Car.{Car}
-use Rattle.train.specs.declared.CarAnswer.{CarAnswer}
-use Rattle.train.specs.declared.CarAnswer.the-variants.{Accepted, Refused}
+use Rattle.base.proofs.Answer.{not-applied, passed, by-number, refuses-append, refused-append, accepted-append}
+use Rattle.table.specs.Table.{Table, tablesTests, tablesVerdict}
+use Rattle.car.specs.declared.Car.{Car}
+use Rattle.car.specs.declared.CarAnswer.{CarAnswer}
+use Rattle.car.specs.declared.CarAnswer.the-variants.{Accepted, Refused}
+use Rattle.car.specs.Measured.{gross, net, mass, sixFigures}
+use Rattle.car.specs.Car.{measured, carTests, figuresOf, ownAnswer, carTold}
 use Rattle.train.specs.declared.Train.{Train}
-use Rattle.train.specs.Car.{numberBad, carTests, gross, net, sixFigures, ownAnswer, told}
-use Rattle.train.specs.Train.{heldBy, full, trainTests, headVerdict, enterAnswer, withAnswer, afterBy, enterTrain, Open}
+use Rattle.train.specs.Train.{mostInTrain, full, trainTests, admissionTests, enterTests, enterAnswer, afterBy, enterTrain}
+use Rattle.train.specs.Inner.{withAnswer, Open}
 
--- a train is open exactly where 9 does not apply
-pub open-not-full : (t : Train) → Open t → full t ≡ false
-unfolding full
-open-not-full t o =
-    simp
-    (lt-leb 60 (t .held) (o .place), le-ltb 60 (t .accepted) (o .few), le-ltb 12_000_000 (t .gross) (o .gross-low), le-ltb 12_000_000 (t .net) (o .net-low))
-
+-- a train is open where 9 does not apply
 not-full-open : (t : Train) → full t ≡ false → Open t
 unfolding full
 not-full-open t e =
-    let p = neither (leb 60 (t .held) || ltb 60 (t .accepted) || ltb 12_000_000 (t .gross)) (ltb 12_000_000 (t .net)) e in
-    let q = neither (leb 60 (t .held) || ltb 60 (t .accepted)) (ltb 12_000_000 (t .gross)) (p .0) in
-    let r = neither (leb 60 (t .held)) (ltb 60 (t .accepted)) (q .0) in
+    let p = neither (leb mostCars (t .held) || ltb mostCars (t .accepted) || ltb mostInTrain (t .gross)) (ltb mostInTrain (t .net)) e in
+    let q = neither (leb mostCars (t .held) || ltb mostCars (t .accepted)) (ltb mostInTrain (t .gross)) (p .0) in
+    let r = neither (leb mostCars (t .held)) (ltb mostCars (t .accepted)) (q .0) in
     record {
-      place = leb-false 60 (t .held) (r .0);
-      few = ltb-false 60 (t .accepted) (r .1);
-      gross-low = ltb-false 12_000_000 (t .gross) (q .1);
-      net-low = ltb-false 12_000_000 (t .net) (p .1);
+      place = leb-false mostCars (t .held) (r .0);
+      few = ltb-false mostCars (t .accepted) (r .1);
+      gross-low = ltb-false mostInTrain (t .gross) (q .1);
+      net-low = ltb-false mostInTrain (t .net) (p .1);
     }
 
--- past 9 and 10 only 11 is left
-pub eleven-left : (t : Train) (number : ℕ) → Open t → 1 ≤ number → number ≤ 99_999_999
-    → numberOf (first (trainTests t number)) ≡ numberOf (refuseIf 11 (member number (heldBy t)))
-eleven-left t number o h k = simp (open-not-full t o, le-ltb number 1 h, le-ltb 99_999_999 number k) (ap numberOf (first-one (refuseIf 11 (member number (heldBy t)))))
-
 -- where no number is handed on, none of 9 to 11 applies
-train-proper : (t : Train) (number : ℕ) → Proper (first (trainTests t number))
-train-proper t number =
-    proper-each (trainTests t number)
-    (proper-if 9 (full t) (omega arith), (proper-if 10 (numberBad number) (omega arith), (proper-if 11 (member number (heldBy t)) (omega arith), tt)))
+none-applies : (t : Train) (number : ℕ) {k : ℕ} → k ≡ firstNumber (trainTests t number) → k ≡ 0 → first (trainTests t number) ≡ accepts
+none-applies t number e z = passed (trainTests t number) refl e z
 
-pub opened : (t : Train) (number : ℕ) → numberOf (first (trainTests t number)) ≡ 0 → Open t
-opened t number e =
-    not-full-open t
-    (accepted-if 9 (full t)
-    (accepted-first (refuseIf 9 (full t)) (refuseIf 10 (numberBad number) ∷ refuseIf 11 (member number (heldBy t)) ∷ []) (train-proper t number e) .0))
+pub opened : (t : Train) (number : ℕ) {k : ℕ} → k ≡ firstNumber (trainTests t number) → k ≡ 0 → Open t
+opened t number e z = not-full-open t (not-applied 9 (trainTests t number) (none-applies t number e z))
 
--- On tables that are not refused.
+-- A car that 7 to 11 turn away, and one that they do not.
 
-module _ (ts : List Table) (t : Train) (c : Car) (good : tablesVerdict ts ≡ accepts) where
-  head-tests : headVerdict ts t c ≡ first (trainTests t (c .number))
-  unfolding headVerdict
-  head-tests = simp good
+module _ (ts : List Table) (t : Train) (c : Car) where
+  admission-refused : {k : ℕ} → first (admissionTests ts t c) ≡ refuses k → (refusal k ≡ enterAnswer ts t c) × (t ≡ enterTrain ts t c)
+  unfolding enterTests enterAnswer enterTrain
+  admission-refused h = (simp (refuses-append (carTests ts c) (admissionTests ts t c) h), simp h)
 
-  -- turned away by 9 to 11
-  pub away : {k : ℕ} → k ≡ numberOf (first (trainTests t (c .number))) → (k ≡ 0 → ⊥) → (refusal k ≡ enterAnswer ts t c) × (t ≡ enterTrain ts t c)
-  unfolding enterTrain
-  away {k} e n =
-      let h : headVerdict ts t c ≡ refuses k = head-tests ∙ by-number (first (trainTests t (c .number))) e n in
-      (simp h, simp h)
+  -- turned away by its tables
+  pub tables-away : {k : ℕ} → k ≡ firstNumber (tablesTests ts) → (k ≡ 0 → ⊥) → (refusal k ≡ enterAnswer ts t c) × (t ≡ enterTrain ts t c)
+  unfolding admissionTests
+  tables-away e n = admission-refused (refused-append (trainTests t (c .number)) (tablesTests ts) e n)
 
-  -- past them, the car's own answer
-  pub taken-in : (a : CarAnswer) → numberOf (first (trainTests t (c .number))) ≡ 0 → told a ≡ ownAnswer ts c
-      → (told a ≡ enterAnswer ts t c) × (withAnswer t (c .number) a ≡ enterTrain ts t c)
-  unfolding ownAnswer enterTrain
-  taken-in a z e =
-      let h : headVerdict ts t c ≡ accepts = head-tests ∙ train-proper t (c .number) z in
-      (simp h (e ∙ ap (λ (v : Verdict). answer v (sixFigures ts c)) (sym (first-one (first (carTests ts c))))), simp h (by-answer a (first (carTests ts c)) e))
-    where
-      by-answer : (a : CarAnswer) (v : Verdict) → told a ≡ answer v (sixFigures ts c) → withAnswer t (c .number) a ≡ afterBy accepts v ts t c
-      by-answer (Accepted f) accepts e =
-          let g : f .gross ≡ gross ts c = cc in
-          let n : f .net ≡ net ts c = cc in
-          simp (g, n)
-      by-answer (Accepted f) (refuses k) e = never (cc)
-      by-answer (Refused n) accepts e = never (cc)
-      by-answer (Refused n) (refuses k) e = refl
+  -- on tables that are not refused
+  module _ (good : tablesVerdict ts ≡ accepts) where
+    by-train : first (admissionTests ts t c) ≡ first (trainTests t (c .number))
+    unfolding admissionTests
+    by-train = accepted-append (trainTests t (c .number)) (tablesTests ts) good
 
--- turned away by its tables
-pub tables-away : (ts : List Table) (t : Train) (c : Car) {k : ℕ} → k ≡ numberOf (tablesVerdict ts) → (k ≡ 0 → ⊥) → (refusal k ≡ enterAnswer ts t c) × (t ≡ enterTrain ts t c)
-unfolding enterTrain headVerdict
-tables-away ts t c {k} e n =
-    let h : tablesVerdict ts ≡ refuses k = by-number (tablesVerdict ts) e n in
-    (simp h, simp h)
+    -- turned away by 9 to 11
+    pub away : {k : ℕ} → k ≡ firstNumber (trainTests t (c .number)) → (k ≡ 0 → ⊥) → (refusal k ≡ enterAnswer ts t c) × (t ≡ enterTrain ts t c)
+    away e n = admission-refused (by-train ∙ by-number (first (trainTests t (c .number))) e n)
+
+    -- past them, the car's own answer
+    pub taken-in : (a : CarAnswer) {k : ℕ} → k ≡ firstNumber (trainTests t (c .number)) → k ≡ 0 → carTold a ≡ ownAnswer ts c
+        → (carTold a ≡ enterAnswer ts t c) × (withAnswer t (c .number) a ≡ enterTrain ts t c)
+    unfolding ownAnswer enterTests enterAnswer enterTrain sixFigures mass
+    taken-in a z n e =
+        let h : first (admissionTests ts t c) ≡ accepts = by-train ∙ none-applies t (c .number) z n in
+        (simp (accepted-append (carTests ts c) (admissionTests ts t c) h) e, simp h (by-answer a (first (carTests ts c)) e))
+      where
+        by-answer : (a : CarAnswer) (v : Verdict) → carTold a ≡ answer v (figuresOf ts c) → withAnswer t (c .number) a ≡ afterBy accepts v ts t c
+        by-answer (Accepted f) accepts e =
+            let g : f .gross ≡ mass gross ts (measured c) = cc in
+            let n : f .net ≡ mass net ts (measured c) = cc in
+            simp (g, n)
+        by-answer (Accepted f) (refuses k) e = never (cc)
+        by-answer (Refused n) accepts e = never (cc)
+        by-answer (Refused n) (refuses k) e = refl

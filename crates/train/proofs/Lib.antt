@@ -1,8 +1,5 @@
-pub mod Accepted
-pub mod Tests
-pub mod Close
+pub mod Taken
 pub mod Order
 pub mod Book
 pub mod Entering
-pub mod AgainstCard
-pub mod Witness
+pub mod Examples

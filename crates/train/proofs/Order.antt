@@ -1,54 +1,40 @@
 -- The filling order: of two accepted cars on the same capacity table, alike but for number and readings, the higher level never shows less.
-use Prim.Native.Nat.{_≤_}
+use Prim.Native.Nat.{ℕ, _≤_}
 use mathlib.Core.Path.{_≡_, sym}
 use mathlib.Core.List.{List}
-use Rattle.base.specs.Answer.{accepts, first, Answer, figures}
-use Rattle.table.specs.Table.{Table, tablesVerdict}
-use Rattle.table.proofs.Capacity.{v0-mono}
-use Rattle.mass.specs.Steps.{wall}
+use native.Mathlib.Nat.{le-antisymm}
+use native.Mathlib.Omega.{arith}
+use Rattle.base.specs.Answer.{Answer, figures, refusal}
+use Rattle.table.specs.Table.{Table}
+use Rattle.capacity.proofs.Capacity.{v0-mono}
+use Rattle.mass.specs.Steps.{stickCoefficient}
 use Rattle.mass.proofs.Order.{volume15-rises, gross-rises, net-rises}
-use Rattle.train.specs.declared.Car.{Car}
-use Rattle.train.specs.Car.{level, rows, carTests, v0, v15, gross, net, sixFigures}
-use Rattle.train.specs.Demand3.{Answered, SameTable, Alike, NoSmaller, TheSame, InOrder}
-use Rattle.train.proofs.Accepted.{accepted, rising}
-use Rattle.train.proofs.Close.{taken}
+use Rattle.car.specs.declared.Measured.{Measured}
+use Rattle.car.specs.Measured.{rows, v0, sixFigures}
+use Rattle.car.proofs.Accepted.{Passed, rising, low}
+use Rattle.train.specs.Demand3.{Answered, SameTable, Alike, Comparable, Figurewise, InOrder}
+use Rattle.train.proofs.Taken.{taken}
 
-module _ {ts us : List Table} {c d : Car} (same : SameTable ts us c d) (alike : Alike c d) where
-  -- a level that is not higher
-  module _ (good : tablesVerdict us ≡ accepts) (own : first (carTests us d) ≡ accepts) (h : level c ≤ level d) where
-    v0-rises : v0 ts c ≤ v0 us d
-    unfolding v0
-    v0-rises = rw (same .rows, alike .water-level) (v0-mono (rows us d) (rising us d good own) (d .«water_level») h (accepted us d own .low))
+-- a level that is not higher
+module _ {ts us : List Table} {m n : Measured} (same : SameTable ts us m n) (alike : Alike m n) (h : Passed us n) (k : m .level ≤ n .level) where
+  v0-rises : v0 ts m ≤ v0 us n
+  unfolding v0
+  v0-rises = rw (same .rows, alike .water-level) (v0-mono (rows us n) (rising us n h) (n .«water_level») k (low us n h))
 
-    no-smaller : NoSmaller (figures (sixFigures ts c)) (figures (sixFigures us d))
-    unfolding v0 v15 gross net
-    no-smaller = (
-      v0-rises,
-      rw (alike .stick, alike .temperature, alike .density) (volume15-rises v0-rises (wall (d .stick)) (d .temperature) (d .density .0)),
-      rw (alike .stick, alike .temperature, alike .density) (gross-rises v0-rises (wall (d .stick)) (d .temperature) (d .density .0)),
-      rw (alike .stick, alike .temperature, alike .density, alike .water, alike .impurities)
-          (net-rises v0-rises (wall (d .stick)) (d .temperature) (d .density .0) (d .water) (d .impurities)),
-    )
+  no-smaller : (x y : ℕ) → Figurewise _≤_ (figures (sixFigures ts x m)) (figures (sixFigures us y n))
+  unfolding sixFigures v0
+  no-smaller x y = (
+    v0-rises,
+    rw (alike .stick, alike .temperature, alike .density) (volume15-rises v0-rises (stickCoefficient (n .stick)) (n .temperature) (n .density .0)),
+    rw (alike .stick, alike .temperature, alike .density) (gross-rises v0-rises (stickCoefficient (n .stick)) (n .temperature) (n .density .0)),
+    rw (alike .stick, alike .temperature, alike .density, alike .water, alike .impurities)
+        (net-rises v0-rises (stickCoefficient (n .stick)) (n .temperature) (n .density .0) (n .water) (n .impurities)),
+  )
 
-  -- the same level
-  module _ (h : level c ≡ level d) where
-    v0-same : v0 ts c ≡ v0 us d
-    unfolding v0
-    v0-same = rw (same .rows, alike .water-level, h)
-
-    the-same : TheSame (figures (sixFigures ts c)) (figures (sixFigures us d))
-    unfolding v15 gross net
-    the-same = (
-      v0-same,
-      rw (v0-same, alike .stick, alike .temperature, alike .density),
-      rw (v0-same, alike .stick, alike .temperature, alike .density),
-      rw (v0-same, alike .stick, alike .temperature, alike .density, alike .water, alike .impurities),
-    )
-
-table-turned : {ts us : List Table} {c d : Car} → SameTable ts us c d → SameTable us ts d c
+table-turned : {ts us : List Table} {m n : Measured} → SameTable ts us m n → SameTable us ts n m
 table-turned s = record { kind = sym (s .kind); rows = sym (s .rows) }
 
-alike-turned : {c d : Car} → Alike c d → Alike d c
+alike-turned : {m n : Measured} → Alike m n → Alike n m
 alike-turned a = record {
   grade = sym (a .grade);
   stick = sym (a .stick);
@@ -59,18 +45,28 @@ alike-turned a = record {
   impurities = sym (a .impurities);
 }
 
-pub in-order : (ts : List Table) (c : Car) (a : Answer) → Answered ts c a → InOrder ts c a
-in-order ts c a w = record {
-  higher = λ us d b x e f same alike h.
-      let k = taken ts c w e in
-      let l = taken us d x f in
-      rw (k .six, l .six) (no-smaller same alike (l .tables) (l .own) h);
-  lower = λ us d b x e f same alike h.
-      let k = taken ts c w e in
-      let l = taken us d x f in
-      rw (k .six, l .six) (no-smaller (table-turned same) (alike-turned alike) (k .tables) (k .own) h);
-  level-with = λ us d b x e f same alike h.
-      let k = taken ts c w e in
-      let l = taken us d x f in
-      rw (k .six, l .six) (the-same same alike h);
+-- figures of which none is smaller either way are the same
+both-ways : (a b : Answer) → Figurewise _≤_ a b → Figurewise _≤_ b a → Figurewise _≡_ a b
+both-ways (figures a) (figures b) (p, q, r, s) (p′, q′, r′, s′) = (le-antisymm p p′, le-antisymm q q′, le-antisymm r r′, le-antisymm s s′)
+both-ways (figures a) (refusal n) h k = absurd h
+both-ways (refusal m) b h k = absurd h
+
+module _ (ts us : List Table) (m n : Measured) (a b : Answer) (w : Answered ts m a) (x : Answered us n b) (c : Comparable ts us m n a b) where
+  rises : m .level ≤ n .level → Figurewise _≤_ a b
+  rises h =
+      let k = taken ts w (c .first) in
+      let l = taken us x (c .second) in
+      rw (k .six, l .six) (no-smaller (c .table) (c .alike) (l .passed) h (k .number) (l .number))
+
+  falls : n .level ≤ m .level → Figurewise _≤_ b a
+  falls h =
+      let k = taken ts w (c .first) in
+      let l = taken us x (c .second) in
+      rw (k .six, l .six) (no-smaller (table-turned (c .table)) (alike-turned (c .alike)) (k .passed) h (l .number) (k .number))
+
+pub in-order : (ts : List Table) (m : Measured) (a : Answer) → Answered ts m a → InOrder ts m a
+in-order ts m a w = record {
+  higher = λ us n b x c h. rises ts us m n a b w x c h;
+  lower = λ us n b x c h. falls ts us m n a b w x c h;
+  level-with = λ us n b x c h. both-ways a b (rises ts us m n a b w x c (omega arith)) (falls ts us m n a b w x c (omega arith));
 }

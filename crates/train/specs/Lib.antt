@@ -1,7 +1,5 @@
-pub mod Car
-pub mod Work
-pub mod Exact
 pub mod Train
 pub mod Book
 pub mod Demand3
-pub mod Card
+pub mod Examples
+pub mod Inner

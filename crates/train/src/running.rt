@@ -1,61 +1,70 @@
 // The running train: empty, and with one car more entered.
 ghost use mathlib.Core.Path.{_≡_};
 ghost use mathlib.Core.List.{List};
-ghost use Rattle.base.specs.Answer.{first, numberOf};
-ghost use Rattle.table.specs.Held.{tablesOf, Good};
-ghost use Rattle.train.specs.Car.{told};
-ghost use Rattle.train.specs.Train.{emptyTrain, trainTests, enterAnswer, enterTrain, withAnswer, Open};
+ghost use Rattle.base.specs.Answer.{firstNumber};
+ghost use Rattle.table.specs.Layout.{tablesOf};
+ghost use Rattle.table.specs.Inner.{Good};
+ghost use Rattle.car.specs.Car.{measured, carTold};
+ghost use Rattle.train.specs.Train.{full, trainTests, emptyTrain, enterAnswer, enterTrain};
 ghost use Rattle.train.specs.Book.{Item};
-ghost use Rattle.train.specs.Demand3.{Close, Kept, Continues, InOrder};
-use crate::Car;
-use crate::CarAnswer;
+ghost use Rattle.train.specs.Book.{car as carItem};
+ghost use Rattle.train.specs.Demand3.{Close, Reconciled, Continues, InOrder};
+ghost use Rattle.train.specs.Examples.{BookExample, EnterOrder};
+ghost use Rattle.train.specs.Inner.{withAnswer, Open};
 use crate::Step;
 use crate::Train;
-use crate::work::work_on;
+use base::MOST_CARS;
+use car::Car;
+use car::CarAnswer;
 use table::Directory;
+use table::PLACES;
+
+// The greatest total of a train, in kg.
+const MOST_IN_TRAIN: u64 = 12_000_000;
 
 impl Train {
     // A train with no cars.
     pub fn empty() -> Train
-        ensures { λ r. ⌜ (r ≡ emptyTrain) × ((items : List Item) → Kept items) ⌝ }
+        ensures { λ r. ⌜ (r ≡ emptyTrain) × ((items : List Item) → Reconciled items) × BookExample ⌝ }
     {
         Train {
             accepted: 0,
             gross: 0,
             net: 0,
             held: 0,
-            numbers: [0u32; 60],
+            numbers: [0u32; MOST_CARS],
         }
+    }
+
+    // 9: whether the train takes no further car.
+    fn is_full(self) -> bool
+        ensures { λ r. ⌜ r ≡ full self ⌝ }
+    {
+        if MOST_CARS <= self.held as usize {
+            return true;
+        }
+        if MOST_CARS < self.accepted as usize {
+            return true;
+        }
+        if MOST_IN_TRAIN < self.gross {
+            return true;
+        }
+        MOST_IN_TRAIN < self.net
     }
 
     // 9, 10 or 11 for a car of this number; 0 where none applies.
     fn refusal(self, number: u32) -> u32
-        ensures { λ r. ⌜ r ≡ numberOf (first (trainTests self number)) ⌝ }
+        ensures { λ r. ⌜ r ≡ firstNumber (trainTests self number) ⌝ }
     {
-        let held = self.held;
-        let accepted = self.accepted;
-        let gross = self.gross;
-        let net = self.net;
+        if self.is_full() {
+            return 9;
+        }
+        let by_number = car::number_refusal(number);
+        if by_number != 0 {
+            return by_number;
+        }
         let numbers = self.numbers;
-        if 60 <= held {
-            return 9;
-        }
-        if 60 < accepted {
-            return 9;
-        }
-        if 12_000_000 < gross {
-            return 9;
-        }
-        if 12_000_000 < net {
-            return 9;
-        }
-        if number < 1 {
-            return 10;
-        }
-        if 99_999_999 < number {
-            return 10;
-        }
-        if base::holds(&numbers, held as usize, number) {
+        if base::holds(&numbers, self.held as usize, number) {
             return 11;
         }
         0
@@ -85,16 +94,17 @@ impl Train {
     pub fn enter(
         self,
         d: Directory,
-        levels: &[u32; 1600],
-        capacities: &[u32; 1600],
+        levels: &[u32; PLACES],
+        capacities: &[u32; PLACES],
         car: Car,
     ) -> Step
         ensures { λ r. ⌜
-            (told (r .answer) ≡ enterAnswer (tablesOf d (now (levels .entry)) (now (capacities .entry))) self car)
+            (carTold (r .answer) ≡ enterAnswer (tablesOf d (now (levels .entry)) (now (capacities .entry))) self car)
             × (r .train ≡ enterTrain (tablesOf d (now (levels .entry)) (now (capacities .entry))) self car)
-            × Close (tablesOf d (now (levels .entry)) (now (capacities .entry))) car (told (r .answer))
-            × InOrder (tablesOf d (now (levels .entry)) (now (capacities .entry))) car (told (r .answer))
-            × Continues self (record { tables = tablesOf d (now (levels .entry)) (now (capacities .entry)); car = car }) (told (r .answer)) (r .train)
+            × Close (tablesOf d (now (levels .entry)) (now (capacities .entry))) (measured car) (carTold (r .answer))
+            × InOrder (tablesOf d (now (levels .entry)) (now (capacities .entry))) (measured car) (carTold (r .answer))
+            × Continues self (carItem (tablesOf d (now (levels .entry)) (now (capacities .entry))) car) (carTold (r .answer)) (r .train)
+            × EnterOrder
             ⌝ }
     {
         let refusal = table::check_tables(d, levels, capacities);
@@ -112,13 +122,13 @@ impl Train {
 pub fn enter_on(
     running: Train,
     d: Directory,
-    levels: &[u32; 1600],
-    capacities: &[u32; 1600],
+    levels: &[u32; PLACES],
+    capacities: &[u32; PLACES],
     car: Car,
 ) -> Step
     requires { ⌜ Good d (now levels) (now capacities) ⌝ }
     ensures { λ r. ⌜
-        (told (r .answer) ≡ enterAnswer (tablesOf d (now (levels .entry)) (now (capacities .entry))) running car)
+        (carTold (r .answer) ≡ enterAnswer (tablesOf d (now (levels .entry)) (now (capacities .entry))) running car)
         × (r .train ≡ enterTrain (tablesOf d (now (levels .entry)) (now (capacities .entry))) running car)
         ⌝ }
 {
@@ -130,7 +140,7 @@ pub fn enter_on(
             train: running,
         };
     }
-    let answer = work_on(d, levels, capacities, car);
+    let answer = car::work_on(d, levels, capacities, car);
     let train = running.with_answer(number, answer);
     Step { answer, train }
 }

@@ -1,34 +1,37 @@
--- `base::holds` meets its contract: what was found so far is what `member` says of the numbers passed.
-use Prim.Native.Nat.{ℕ, _-_, _≤_}
-use mathlib.Core.Path.{_≡_, refl, ap, _∙_}
+-- `base::holds` meets its contract: what was found so far is what `member` says of those of the first n numbers that were passed.
+use Prim.Native.Nat.{ℕ, _+_, _-_, _≤_, _<_, min}
+use mathlib.Core.Path.{_≡_, refl, ap, sym, _∙_}
+use mathlib.Core.List.{List}
 use mathlib.Core.Logic.{⊎-elim}
-use native.Mathlib.Nat.{min-le-right}
+use native.Mathlib.Nat.{le-min, min-le-right}
 use native.Mathlib.Omega.{arith}
-use lib.ListN.{length, take}
+use lib.ListN.{length, getD, take, length-take}
+use lib.Seq.{getD-take, take-all}
 use borrow.Author.Needs.{needs}
 use denote.Ref.{now}
 use Rattle.base.specs.Numbers.{member}
-use Rattle.base.proofs.Numbers.{member-hit, member-miss, take-lesser}
+use Rattle.base.proofs.Numbers.{member-hit, member-miss, take-past}
 use Rattle.base.proofs.holds.Statement.{statement}
 use Rattle.base.proofs.holds.Tie as tie
 
 abbrev Inv-loop : tie.InvT-loop
-Inv-loop numbers n x end found₀ i₀ found i = (i ≤ end) × (end ≤ length numbers) × (found ≡ member x (take i numbers))
+Inv-loop numbers n x found₀ i₀ found i = (i ≤ length numbers) × (found ≡ member x (take i (take n numbers)))
 
 abbrev μ-loop : tie.MeasureT-loop
-μ-loop numbers n x end found₀ i₀ found i = end - i
+μ-loop numbers n x found₀ i₀ found i = length numbers - i
 
-lesser-requires : tie.Need-lesser-requires Inv-loop μ-loop
-lesser-requires c κs = search needs
+-- an index among the first n and within the row is one of the part
+within : (n i : ℕ) (row : List ℕ) → i < n → i < length row → i < length (take n row)
+within n i row h k = let both : i + 1 ≤ min n (length row) = le-min (omega arith) (omega arith) in omega (arith, length-take n row)
 
 loop-holds : tie.Need-loop-holds Inv-loop μ-loop
-loop-holds c = (search needs, omega (arith, c .lesser .ensures, min-le-right (c .before .before .args .n) (length (now (c .before .before .args .numbers)))), refl)
+loop-holds c = (search needs, refl)
 
-mul-if1 : tie.Need-mul-if1 Inv-loop μ-loop
-mul-if1 c = search needs
+mul-if2 : tie.Need-mul-if2 Inv-loop μ-loop
+mul-if2 c = search needs
 
-shared-slice-read-if1 : tie.Need-shared-slice-read-if1 Inv-loop μ-loop
-shared-slice-read-if1 c = search needs
+shared-slice-read-if2 : tie.Need-shared-slice-read-if2 Inv-loop μ-loop
+shared-slice-read-if2 c = search needs
 
 add-i : tie.Need-add-i Inv-loop μ-loop
 add-i c = search needs
@@ -38,24 +41,26 @@ loop-less c = search needs
 
 loop-again : tie.Need-loop-again Inv-loop μ-loop
 loop-again c =
-    let l = c .before .before .before in
-    let a = l .before .before .before .args in (
+    let l = c .before .before in
+    let a = l .before .args in
+    let row : List ℕ = now (a .numbers) in (
       search needs,
-      l .loop .inv .1,
       ⊎-elim
-          (λ w. w .1 ∙ member-hit (a .x) (now (a .numbers)) (l .loop .i) (omega arith) (w .0 .taken))
-          (λ w. w .1 ∙ member-miss (a .x) (now (a .numbers)) (l .loop .i) (omega arith) (w .0 .left) (l .loop .inv .2))
+          (λ w. w .3 ∙ member-hit (a .x) (take (a .n) row) (l .loop .i) (within (a .n) (l .loop .i) row (w .0 .taken) (c .before .loop-test .taken)) (getD-take (a .n) row (l .loop .i) 0 (w .0 .taken) ∙ w .2 .taken))
+          (λ w.
+          ⊎-elim
+          (λ v. v .3 ∙ member-miss (a .x) (take (a .n) row) (l .loop .i) (within (a .n) (l .loop .i) row (v .0 .taken) (c .before .loop-test .taken)) (λ e. v .2 .left (sym (getD-take (a .n) row (l .loop .i) 0 (v .0 .taken)) ∙ e)) (l .loop .inv .1))
+          (λ v. v .1 ∙ l .loop .inv .1 ∙ ap (member (a .x)) (take-past (a .n) (l .loop .i) row (v .0 .left) ∙ sym (take-past (a .n) (l .loop .i + 1) row (omega (arith, v .0 .left)))))
+          w)
           (c .if1 .came),
     )
 
 returns : tie.Need-returns Inv-loop μ-loop
 returns c =
     let l = c .before in
-    let a = l .before .before .before .args in
-    let e : l .loop .i ≡ l .before .lesser .result = omega arith in
-    l .loop .inv .2
-    ∙ ap (λ (k : ℕ). member (a .x) (take k (now (a .numbers)))) (e ∙ l .before .lesser .ensures)
-    ∙ ap (member (a .x)) (take-lesser (a .n) (now (a .numbers)))
+    let a = l .before .args in
+    let row : List ℕ = now (a .numbers) in
+    l .loop .inv .1 ∙ ap (member (a .x)) (take-all (l .loop .i) (take (a .n) row) (omega (arith, length-take (a .n) row, min-le-right (a .n) (length row))))
 
 pub holds-spec : {M : Type 1} → statement M
 holds-spec =
@@ -63,10 +68,9 @@ holds-spec =
     (tie.spec
     Inv-loop
     μ-loop
-    lesser-requires
     loop-holds
-    mul-if1
-    shared-slice-read-if1
+    mul-if2
+    shared-slice-read-if2
     add-i
     loop-less
     loop-again

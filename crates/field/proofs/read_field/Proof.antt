@@ -4,15 +4,15 @@ use borrow.Author.Needs.{needs}
 use Prim.Native.Nat.{_-_, _≤_}
 use mathlib.Core.Path.{_≡_, sym, ap, _∙_}
 use native.Mathlib.Omega.{arith}
-use Rattle.field.specs.Field.{seenTo, finish}
+use Rattle.field.specs.Field.{columns, seenTo, finish}
 use Rattle.field.proofs.read_field.Statement.{statement}
 use Rattle.field.proofs.read_field.Tie as tie
 
 abbrev Inv-loop : tie.InvT-loop
-Inv-loop s at seen₀ i₀ seen i = (i ≤ 9) × (seen ≡ seenTo s at i)
+Inv-loop s at seen₀ i₀ seen i = (i ≤ columns) × (seen ≡ seenTo s at i)
 
 abbrev μ-loop : tie.MeasureT-loop
-μ-loop s at seen₀ i₀ seen i = 9 - i
+μ-loop s at seen₀ i₀ seen i = columns - i
 
 returns : tie.Need-returns Inv-loop μ-loop
 returns c = sym (past _ _ (omega arith))

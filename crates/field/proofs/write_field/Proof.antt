@@ -1,4 +1,4 @@
--- `field::write_field` meets its contract: what does not fit leaves the buffer as lent, and `lay_field` writes the rest.
+-- `field::write_field` meets its contract: what does not fit leaves the buffer as lent, and `put_field` writes the rest.
 use mathlib.Core.Path.{sym, _∙_}
 use native.Mathlib.Omega.{arith}
 use borrow.Author.Needs.{needs}
@@ -25,8 +25,8 @@ returns-3 c =
     let a = c .before .before .before .before .args in
     no-room (a .n) (a .at) (now (a .out)) (omega arith)
 
-lay-field-requires : tie.Need-lay-field-requires
-lay-field-requires c κs = search needs
+put-field-requires : tie.Need-put-field-requires
+put-field-requires c κs = search needs
 
 same-length : tie.Need-same-length
 same-length c = search needs
@@ -37,10 +37,10 @@ returns-4 c =
     let e = l .before .before in
     let a = e .before .before .before .before .args in (
       sym (fits (a .n) (a .at) (now (a .out)) (omega arith) (omega arith)),
-      l .lay-field .ensures ∙ sym (field-written (a .n) (a .at) (now (a .out)) (omega arith) (omega arith)),
+      l .put-field .ensures ∙ sym (field-written (a .n) (a .at) (now (a .out)) (omega arith) (omega arith)),
     )
 
 pub write-field-spec : {M : Type 1} → statement M
 write-field-spec =
     tie.close
-    (tie.spec returns returns-2 sub-if3 returns-3 lay-field-requires same-length returns-4)
+    (tie.spec returns returns-2 sub-if3 returns-3 put-field-requires same-length returns-4)

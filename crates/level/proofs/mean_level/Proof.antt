@@ -1,23 +1,22 @@
 -- `level::mean_level` meets its contract: a refusal of the readings stands before 16, and without one the mean decides.
 use Prim.Native.Nat.{ℕ}
-use mathlib.Core.Path.{_≡_, _∙_, ap, sym}
+use mathlib.Core.Path.{_≡_, refl, _∙_, ap, sym}
 use mathlib.Core.Bool.{Bool}
 use mathlib.Core.List.{List, [], _∷_}
 use lib.Dec.{eqb}
 use borrow.Author.Needs.{needs}
 use borrow.Author.Tests.{eq-eqb, ne-eqb}
-use Rattle.base.specs.Answer.{refuseIf, first, numberOf, answer, figures}
-use Rattle.base.proofs.Answer.{refused-append, accepted-append}
+use Rattle.base.specs.Answer.{refuseIf, first, firstNumber, answer, figures}
+use Rattle.base.proofs.Answer.{passed, refused-append, accepted-append}
 use Rattle.level.specs.Level.{meanLevel, readingsTests, meanLevelAnswer}
-use Rattle.level.proofs.Readings.{readings-proper}
 use Rattle.level.proofs.mean_level.Statement.{statement}
 use Rattle.level.proofs.mean_level.Tie as tie
 
 -- with no refusal of the readings
-by-mean : (n : ℕ) (x : List ℕ) → 0 ≡ numberOf (first (readingsTests n x)) → {t : Bool} → eqb (meanLevel x) 0 ≡ t
+by-mean : (n : ℕ) (x : List ℕ) → 0 ≡ firstNumber (readingsTests n x) → {t : Bool} → eqb (meanLevel x) 0 ≡ t
     → answer (first (refuseIf 16 t ∷ [])) (meanLevel x ∷ []) ≡ meanLevelAnswer n x
 unfolding meanLevelAnswer
-by-mean n x e f = sym (rw (accepted-append (readingsTests n x) (refuseIf 16 (eqb (meanLevel x) 0) ∷ []) (readings-proper n x (sym e)), f))
+by-mean n x e f = sym (rw (accepted-append (refuseIf 16 (eqb (meanLevel x) 0) ∷ []) (readingsTests n x) (passed (readingsTests n x) refl e refl), f))
 
 readings-refusal-requires : tie.Need-readings-refusal-requires
 readings-refusal-requires c κs = search needs
@@ -27,7 +26,7 @@ unfolding meanLevelAnswer
 returns c =
     let n = c .before .before .args .n in
     let x = c .before .before .args .readings in
-    sym (rw (refused-append (readingsTests n x) (refuseIf 16 (eqb (meanLevel x) 0) ∷ []) (c .before .readings-refusal .ensures) (c .if1 .taken)))
+    sym (rw (refused-append (refuseIf 16 (eqb (meanLevel x) 0) ∷ []) (readingsTests n x) (c .before .readings-refusal .ensures) (c .if1 .taken)))
 
 mean-of-requires : tie.Need-mean-of-requires
 mean-of-requires c κs = search needs

@@ -1,7 +1,6 @@
 -- `level::readings_refusal` meets its contract: each test is what its function ensures.
 use mathlib.Core.Path.{_∙_, sym}
 use borrow.Author.Needs.{needs}
-use Rattle.level.specs.Level.{readingsTests}
 use Rattle.level.proofs.readings_refusal.Statement.{statement}
 use Rattle.level.proofs.readings_refusal.Tie as tie
 
@@ -12,17 +11,14 @@ two-disagree-requires : tie.Need-two-disagree-requires
 two-disagree-requires c κs = search needs
 
 returns : tie.Need-returns
-unfolding readingsTests
 returns c = rw (sym (c .before .before .unused-bad .ensures) ∙ c .if1 .taken)
 
 returns-2 : tie.Need-returns-2
-unfolding readingsTests
 returns-2 c =
     let s = c .before .before in
     rw (sym (s .before .unused-bad .ensures) ∙ c .before .if1 .left, sym (s .two-disagree .ensures) ∙ c .if2 .taken)
 
 returns-3 : tie.Need-returns-3
-unfolding readingsTests
 returns-3 c =
     let s = c .before .before in
     rw (sym (s .before .unused-bad .ensures) ∙ c .before .if1 .left, sym (s .two-disagree .ensures) ∙ c .if2 .left)

@@ -1,8 +1,8 @@
--- `listing::answer_sheet` meets its contract: 1 with nothing written, the Z line, or the listing; and what is listed is tied to the book.
+-- `listing::answer_sheet` meets its contract: 1 with nothing written, the Z line, or the listing; and what is listed is reconciled with the book.
 use native.Mathlib.Omega.{arith}
 use borrow.Author.Needs.{needs}
 use denote.Ref.{now}
-use Rattle.listing.proofs.Tied.{too-short, answered, refused-read, whole-read, refused-proper, whole-proper}
+use Rattle.listing.proofs.Reconciled.{too-short, answered, refused-read, whole-read, refused-proper, whole-proper}
 use Rattle.listing.proofs.answer_sheet.Statement.{statement}
 use Rattle.listing.proofs.answer_sheet.Tie as tie
 

@@ -7,10 +7,11 @@ use lib.ListN.{take, drop}
 use borrow.Author.Needs.{needs}
 use denote.Ref.{now}
 use Rattle.table.specs.Table.{Table}
-use Rattle.table.specs.Held.{tablesOf}
-use Rattle.train.specs.declared.Car.{Car}
+use Rattle.table.specs.Layout.{tablesOf}
+use Rattle.car.specs.declared.Car.{Car}
 use Rattle.train.specs.Train.{enterAnswer, enterTrain}
-use Rattle.listing.specs.Listing.{carOf, carLine}
+use Rattle.car.specs.Car.{carOf}
+use Rattle.listing.specs.Listing.{answerLine}
 use Rattle.listing.proofs.Run.{Written, begun, line-room, turn, totals-low, sum-room, ended}
 use Rattle.listing.proofs.write_listing.Statement.{statement}
 use Rattle.listing.proofs.write_listing.Tie as tie
@@ -25,19 +26,19 @@ abbrev all : tie.Start Inv-loop μ-loop → List Table
 all s = tablesOf (s .args .d) (now (s .args .levels)) (now (s .args .capacities))
 
 -- the line that a turn writes
-the-line : (c : tie.After-car-line Inv-loop μ-loop) →
+the-line : (c : tie.After-answer-line Inv-loop μ-loop) →
     let l = c .before .before .before .before .before .before in
     let s = l .before .before .before in
     let ns = take 14 (drop (14 * l .loop .i) (now (s .args .fields))) in
-    c .car-line .result ≡ carLine (carOf ns) (enterAnswer (all s) (l .loop .running) (carOf ns))
+    c .answer-line .result ≡ answerLine (carOf ns .number) (enterAnswer (all s) (l .loop .running) (carOf ns))
 the-line c =
     let e = c .before .before .before in
     let k = e .before in
     let l = k .before .before in
     let s = l .before .before .before in
-    c .car-line .ensures
-    ∙ ap (carLine (k .car-at .result)) (e .enter-on .ensures .0)
-    ∙ ap (λ (x : Car). carLine x (enterAnswer (all s) (l .loop .running) x)) (k .car-at .ensures)
+    c .answer-line .ensures
+    ∙ ap (answerLine (k .car-at .result .number)) (e .enter-on .ensures .0)
+    ∙ ap (λ (x : Car). answerLine (x .number) (enterAnswer (all s) (l .loop .running) x)) (k .car-at .ensures)
 
 empty-requires : tie.Need-empty-requires Inv-loop μ-loop
 empty-requires c κs = search needs
@@ -55,11 +56,11 @@ car-at-requires c κs =
 enter-on-requires : tie.Need-enter-on-requires Inv-loop μ-loop
 enter-on-requires c κs = let s = c .before .before .before .before .before in s .pre .good
 
-car-line-requires : tie.Need-car-line-requires Inv-loop μ-loop
-car-line-requires c κs = search needs
+answer-line-requires : tie.Need-answer-line-requires Inv-loop μ-loop
+answer-line-requires c κs = search needs
 
-lay-requires : tie.Need-lay-requires Inv-loop μ-loop
-lay-requires c κs =
+append-line-requires : tie.Need-append-line-requires Inv-loop μ-loop
+append-line-requires c κs =
     let t = c .before .before .before .before .before in
     let l = t .before in
     let s = l .before .before .before in
@@ -83,8 +84,8 @@ loop-again c =
     let l = t .before in
     let s = l .before .before .before in
     turn (all s) (s .pre .good .accepted) (now (s .args .fields)) (s .args .cars) (now (s .args .out)) (l .loop .out) (l .loop .running) (l .loop .at) (l .loop .i) (l .loop .inv)
-    (t .loop-test .taken) (n .car-line .result) (e .enter-on .result .train) (w .lay .last .0) (w .lay .result) (the-line n)
-    (e .enter-on .ensures .1 ∙ ap (enterTrain (all s) (l .loop .running)) (k .car-at .ensures)) (w .lay .ensures .1) (w .lay .ensures .0) (w .lay .kept .0)
+    (t .loop-test .taken) (n .answer-line .result) (e .enter-on .result .train) (w .append-line .last .0) (w .append-line .result) (the-line n)
+    (e .enter-on .ensures .1 ∙ ap (enterTrain (all s) (l .loop .running)) (k .car-at .ensures)) (w .append-line .ensures .1) (w .append-line .ensures .0) (w .append-line .kept .0)
 
 totals-line-requires : tie.Need-totals-line-requires Inv-loop μ-loop
 totals-line-requires c κs =
@@ -96,8 +97,8 @@ totals-line-requires c κs =
     (t .loop-test .left) in
     (omega (arith, low .1), omega (arith, low .2))
 
-lay-requires-2 : tie.Need-lay-requires-2 Inv-loop μ-loop
-lay-requires-2 c κs =
+append-line-requires-2 : tie.Need-append-line-requires-2 Inv-loop μ-loop
+append-line-requires-2 c κs =
     let t = c .before .before in
     let l = t .before in
     let s = l .before .before .before in
@@ -106,7 +107,7 @@ lay-requires-2 c κs =
     (t .loop-test .left))
 
 same-length : tie.Need-same-length Inv-loop μ-loop
-same-length c = let w = c .before .before in w .lay2 .kept .0 ∙ w .before .before .before .before .loop .inv .same
+same-length c = let w = c .before .before in w .append-line2 .kept .0 ∙ w .before .before .before .before .loop .inv .same
 
 returns : tie.Need-returns Inv-loop μ-loop
 returns c =
@@ -116,7 +117,7 @@ returns c =
     let l = t .before in
     let s = l .before .before .before in
     ended (all s) (s .pre .good .accepted) (now (s .args .fields)) (s .args .cars) (now (s .args .out)) (l .loop .out) (l .loop .running) (l .loop .at) (l .loop .i) (l .loop .inv)
-    (t .loop-test .left) (n .totals-line .result) (w .lay2 .last .0) (w .lay2 .result) (n .totals-line .ensures) (w .lay2 .ensures .1) (w .lay2 .ensures .0)
+    (t .loop-test .left) (n .totals-line .result) (w .append-line2 .last .0) (w .append-line2 .result) (n .totals-line .ensures) (w .append-line2 .ensures .1) (w .append-line2 .ensures .0)
 
 pub write-listing-spec : {M : Type 1} → statement M
 write-listing-spec =
@@ -128,12 +129,12 @@ write-listing-spec =
     loop-holds
     car-at-requires
     enter-on-requires
-    car-line-requires
-    lay-requires
+    answer-line-requires
+    append-line-requires
     add-i
     loop-less
     loop-again
     totals-line-requires
-    lay-requires-2
+    append-line-requires-2
     same-length
     returns)

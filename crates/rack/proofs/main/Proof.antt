@@ -32,6 +32,9 @@ slice-aggregate-write-all c = let a = c .before .before in sym (length-take-le (
 write-all-requires : tie.Need-write-all-requires
 write-all-requires c κs = search needs
 
+report-requires : tie.Need-report-requires
+report-requires c κs = search needs
+
 returns : tie.Need-returns
 returns c = search needs
 
@@ -48,4 +51,5 @@ main-spec =
     array-share-prefix-out
     slice-aggregate-write-all
     write-all-requires
+    report-requires
     returns)

@@ -7,9 +7,9 @@ use lib.ListN.{length}
 use borrow.Author.Needs.{needs}
 use denote.Ref.{now}
 use Rattle.base.specs.Answer.{figures}
-use Rattle.line.specs.Letter.{countOf}
+use Rattle.reading.specs.Letter.{countOf}
 use Rattle.line.specs.Writing.{smallTo}
-use Rattle.line.proofs.Bytes.{can-write, short, large, laid, answered}
+use Rattle.line.proofs.Bytes.{can-write, short, large, line-written, answered}
 use Rattle.line.proofs.writing.write_line_at.Statement.{statement}
 use Rattle.line.proofs.writing.write_line_at.Tie as tie
 
@@ -50,8 +50,8 @@ returns-2 c =
 small-requires : tie.Need-small-requires
 small-requires c κs = search needs
 
-lay-line-requires : tie.Need-lay-line-requires
-lay-line-requires c κs =
+put-line-requires : tie.Need-put-line-requires
+put-line-requires c κs =
     let s = c .before .before in
     let k = s .before .before .before in
     (omega (arith, k .count-of .ensures .0), sym (numbers-are s) ∙ c .before .if3 .taken)
@@ -67,7 +67,7 @@ returns-3 c =
     let a = k .before .before .before .args in
     let e = can-write (a .line) (a .at) (length (now (a .out))) (omega (arith, k .count-of .ensures .0, s .before .if2 .left, s .before .before .if1 .left)) (sym (numbers-are s) ∙ w .before .before .if3 .taken) in (
       ap (λ (n : ℕ). figures ((2 + 9 * n) ∷ [])) (k .count-of .ensures .0) ∙ answered (a .line) (a .at) (length (now (a .out))) e,
-      w .lay-line .ensures ∙ laid (a .line) (a .at) (now (a .out)) e,
+      w .put-line .ensures ∙ line-written (a .line) (a .at) (now (a .out)) e,
     )
 
 returns-4 : tie.Need-returns-4
@@ -87,7 +87,7 @@ write-line-at-spec =
     sub-if2
     returns-2
     small-requires
-    lay-line-requires
+    put-line-requires
     same-length
     returns-3
     returns-4)

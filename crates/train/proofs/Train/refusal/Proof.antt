@@ -1,48 +1,44 @@
--- `Train::refusal` meets its contract: each return follows from the tests before it.
-use mathlib.Core.Path.{_≡_, sym, ap, _∙_}
-use mathlib.Core.Bool.{Bool}
-use native.Mathlib.Omega.{arith}
-use borrow.Author.Needs.{needs}
-use Rattle.base.specs.Answer.{refuseIf, first, numberOf}
+-- `Train::refusal` meets its contract: 9, what 10 says, then 11.
+use Prim.Native.Nat.{ℕ}
+use mathlib.Core.Path.{_≡_, refl, sym, _∙_}
+use mathlib.Core.Bool.{false}
+use mathlib.Core.List.{[], _∷_}
+use Rattle.base.specs.Answer.{refuseIf, firstNumber}
 use Rattle.base.specs.Numbers.{member}
-use Rattle.base.proofs.Tests.{tests}
-use Rattle.train.specs.Train.{full, heldBy, trainTests}
-use Rattle.train.proofs.Entering.{eleven-left}
+use Rattle.base.proofs.Answer.{number-stops, number-goes-on}
+use Rattle.car.specs.Car.{numberTests}
+use Rattle.train.specs.Train.{heldBy, full, trainTests}
+use borrow.Author.Needs.{needs}
 use Rattle.train.proofs.Train.refusal.Statement.{statement}
 use Rattle.train.proofs.Train.refusal.Tie as tie
 
--- past the tests of 9 and 10 only 11 is left
-left : (c : tie.Else6) →
-    let a = c .before .before .before .before .before .before .before .args in
-    numberOf (first (trainTests (a .self) (a .number))) ≡ numberOf (refuseIf 11 (member (a .number) (heldBy (a .self))))
-left c =
-    let e = c .before .before .before .before .before .before .before .args in
-    eleven-left (e .self) (e .number)
-    (record { place = omega arith; few = omega arith; gross-low = omega arith; net-low = omega arith }) (omega arith) (omega arith)
+not-full : (c : tie.Else1) → full (c .before .before .args .self) ≡ false
+not-full c = sym (c .before .is-full .ensures) ∙ c .if1 .left
+
+-- past 9 and 10 what is handed on is 11's
+eleven : (c : tie.Else2) {k : ℕ} → let a = c .before .before .before .before .args in
+    k ≡ firstNumber (refuseIf 11 (member (a .number) (heldBy (a .self))) ∷ []) → k ≡ firstNumber (trainTests (a .self) (a .number))
+eleven c e =
+    let n = c .before in
+    let a = n .before .before .before .args in
+    rw (not-full (n .before))
+    (number-goes-on (refuseIf 11 (member (a .number) (heldBy (a .self))) ∷ []) (numberTests (a .number)) refl (n .number-refusal .ensures) (c .if2 .left) e)
+
+is-full-requires : tie.Need-is-full-requires
+is-full-requires c κs = search needs
 
 returns : tie.Need-returns
-unfolding full
-returns c = search tests
+returns c = rw (sym (c .before .is-full .ensures) ∙ c .if1 .taken)
+
+number-refusal-requires : tie.Need-number-refusal-requires
+number-refusal-requires c κs = search needs
 
 returns-2 : tie.Need-returns-2
-unfolding full
-returns-2 c = search tests
-
-returns-3 : tie.Need-returns-3
-unfolding full
-returns-3 c = search tests
-
-returns-4 : tie.Need-returns-4
-unfolding full
-returns-4 c = search tests
-
-returns-5 : tie.Need-returns-5
-unfolding full
-returns-5 c = search tests
-
-returns-6 : tie.Need-returns-6
-unfolding full
-returns-6 c = search tests
+returns-2 c =
+    let n = c .before in
+    let a = n .before .before .before .args in
+    rw (not-full (n .before))
+    (number-stops (refuseIf 11 (member (a .number) (heldBy (a .self))) ∷ []) (numberTests (a .number)) (n .number-refusal .ensures) (c .if2 .taken))
 
 slice-aggregate-holds : tie.Need-slice-aggregate-holds
 slice-aggregate-holds c = search needs
@@ -53,28 +49,22 @@ cast-holds c = search needs
 holds-requires : tie.Need-holds-requires
 holds-requires c κs = search needs
 
-returns-7 : tie.Need-returns-7
-returns-7 c =
-    let h = c .before in
-    sym (left (h .before .before) ∙ ap (λ (b : Bool). numberOf (refuseIf 11 b)) (sym (h .holds .ensures) ∙ c .if7 .taken))
+returns-3 : tie.Need-returns-3
+returns-3 c = let h = c .before in eleven (h .before .before .before .before) (rw (sym (h .holds .ensures) ∙ c .if3 .taken))
 
-returns-8 : tie.Need-returns-8
-returns-8 c =
-    let h = c .before in
-    sym (left (h .before .before) ∙ ap (λ (b : Bool). numberOf (refuseIf 11 b)) (sym (h .holds .ensures) ∙ c .if7 .left))
+returns-4 : tie.Need-returns-4
+returns-4 c = let h = c .before in eleven (h .before .before .before .before) (rw (sym (h .holds .ensures) ∙ c .if3 .left))
 
 pub refusal-spec : {M : Type 1} → statement M
 refusal-spec =
     tie.close
     (tie.spec
+    is-full-requires
     returns
+    number-refusal-requires
     returns-2
-    returns-3
-    returns-4
-    returns-5
-    returns-6
     slice-aggregate-holds
     cast-holds
     holds-requires
-    returns-7
-    returns-8)
+    returns-3
+    returns-4)

@@ -1,7 +1,7 @@
 -- `Train::with_answer` meets its contract, by the two cases of the answer.
 use mathlib.Core.Path.{sym, ap}
 use borrow.Author.Needs.{needs}
-use Rattle.train.specs.Train.{withAnswer}
+use Rattle.train.specs.Inner.{withAnswer}
 use Rattle.train.proofs.Train.with_answer.Statement.{statement}
 use Rattle.train.proofs.Train.with_answer.Tie as tie
 

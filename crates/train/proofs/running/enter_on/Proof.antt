@@ -1,10 +1,10 @@
 -- `train::enter_on` meets its contract: the train's refusals first, then the car's own answer.
-use mathlib.Core.Path.{sym, _∙_}
+use mathlib.Core.Path.{_∙_}
 use mathlib.Core.List.{List}
 use borrow.Author.Needs.{needs}
 use denote.Ref.{now}
 use Rattle.table.specs.Table.{Table}
-use Rattle.table.specs.Held.{tablesOf}
+use Rattle.table.specs.Layout.{tablesOf}
 use Rattle.train.proofs.Entering.{opened, away, taken-in}
 use Rattle.train.proofs.running.enter_on.Statement.{statement}
 use Rattle.train.proofs.running.enter_on.Tie as tie
@@ -28,7 +28,7 @@ with-answer-requires : tie.Need-with-answer-requires
 with-answer-requires c κs =
     let r = c .before .before in
     let s = r .before in
-    opened (s .args .running) (s .args .car .number) (sym (r .refusal .ensures) ∙ c .before .if1 .left)
+    opened (s .args .running) (s .args .car .number) (r .refusal .ensures) (c .before .if1 .left)
 
 returns-2 : tie.Need-returns-2
 unfolding all
@@ -36,7 +36,7 @@ returns-2 c =
     let w = c .before in
     let r = w .before .before in
     let s = r .before in
-    let t = taken-in (all s) (s .args .running) (s .args .car) (s .pre .accepted) (w .work-on .result) (sym (r .refusal .ensures) ∙ w .before .if1 .left) (w .work-on .ensures) in
+    let t = taken-in (all s) (s .args .running) (s .args .car) (s .pre .accepted) (w .work-on .result) (r .refusal .ensures) (w .before .if1 .left) (w .work-on .ensures) in
     (t .0, c .with-answer .ensures ∙ t .1)
 
 pub enter-on-spec : {M : Type 1} → statement M

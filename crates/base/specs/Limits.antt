@@ -1,0 +1,32 @@
+-- The limits of document 01 that more than one rule names, each with its unit, and the unit of level.
+use Prim.Native.Nat.{ℕ, _*_}
+
+-- the largest number of a field, and so of a car
+abbrev pub largest : ℕ
+largest = 99_999_999
+
+-- the most tables of a sheet, the most rows of a table, the most cars of a sheet, which is also the most numbers that a train holds
+abbrev pub mostTables : ℕ
+mostTables = 4
+
+abbrev pub mostRows : ℕ
+mostRows = 400
+
+abbrev pub mostCars : ℕ
+mostCars = 60
+
+-- the highest level of a table, and of the tape, in mm
+abbrev pub highestLevel : ℕ
+highestLevel = 3_600
+
+-- the greatest capacity of a table, in dm³
+abbrev pub greatestCapacity : ℕ
+greatestCapacity = 200_000
+
+-- how many units of a mean level make a millimetre; readings, rows and water levels are in whole millimetres
+abbrev pub levelUnits : ℕ
+levelUnits = 1
+
+-- a level in mm, in these units
+abbrev pub inUnits : ℕ → ℕ
+inUnits mm = levelUnits * mm

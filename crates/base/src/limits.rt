@@ -1,0 +1,20 @@
+// The limits that more than one rule names (specs/Limits.antt), each with its unit, and the unit of level.
+
+// The largest number of a field, and so of a car.
+pub const LARGEST: u32 = 99_999_999;
+
+// The most tables of a sheet, rows of a table and cars of a sheet; a train holds as many numbers.
+pub const MOST_TABLES: usize = 4;
+
+pub const MOST_ROWS: usize = 400;
+
+pub const MOST_CARS: usize = 60;
+
+// The highest level of a table, and of the tape, in mm.
+pub const HIGHEST_LEVEL: u32 = 3_600;
+
+// The greatest capacity of a table, in dm³.
+pub const GREATEST_CAPACITY: u32 = 200_000;
+
+// How many units of a mean level make a millimetre.
+pub const LEVEL_UNITS: u32 = 1;

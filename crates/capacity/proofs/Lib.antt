@@ -1,0 +1,4 @@
+pub mod Capacity
+pub mod Search
+pub mod Answers
+pub mod AgainstCard

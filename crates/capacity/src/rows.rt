@@ -1,0 +1,78 @@
+// The rows of one table: those that a level passes, and the capacity between two. Rows are in mm and dm³, a level is in units, of
+// which LEVEL_UNITS make a millimetre.
+ghost use mathlib.Core.Path.{_≡_};
+ghost use Prim.Native.Nat.{_+_, _≤_, _<_, min};
+ghost use Rattle.base.specs.Limits.{inUnits};
+ghost use Rattle.table.specs.Layout.{places};
+ghost use Rattle.capacity.specs.Capacity.{interpolated};
+ghost use Rattle.capacity.specs.Inner.{gapAt, Between, Reaches, RowBelow};
+use base::LEVEL_UNITS;
+use table::PLACES;
+
+// A level in mm, in units.
+pub fn in_units(mm: u32) -> u64
+    ensures { λ r. ⌜ r ≡ inUnits mm ⌝ }
+{
+    (LEVEL_UNITS as u64) * (mm as u64)
+}
+
+// The least whole mm that reaches a level.
+pub fn least_mm(level: u32) -> u32
+    ensures { λ r. ⌜ Reaches level r ⌝ }
+{
+    ((level as u64 + LEVEL_UNITS as u64 - 1) / LEVEL_UNITS as u64) as u32
+}
+
+fn lesser(a: usize, b: usize) -> usize
+    ensures { λ r. ⌜ r ≡ min a b ⌝ }
+{
+    if a < b { a } else { b }
+}
+
+// Of the rows `step` apart from `low` up to `last`, the last that does not reach `reach` mm; `low` where each after it does. The
+// loop is never left early, so that no branch hangs on the level.
+fn last_below(levels: &[u32; PLACES], low: usize, last: usize, step: usize, reach: u32) -> usize
+    requires { ⌜ (low ≤ last) × (last < places) × (0 < step) × (step ≤ places) ⌝ }
+    ensures { λ r. ⌜ RowBelow (now (levels .entry)) low last reach r ⌝ }
+{
+    let mut found = low;
+    let mut i = low + step;
+    while i <= last {
+        if levels[i] < reach {
+            found = i;
+        }
+        i += step;
+    }
+    found
+}
+
+// A row from `low` to `last` that does not reach `reach` mm, and after which the next one does where the rows rise; `low` where
+// none is found. Blocks of 49 rows are passed first, then of 7, then rows.
+pub fn skip_rows(levels: &[u32; PLACES], low: usize, last: usize, reach: u32) -> usize
+    requires { ⌜ (low ≤ last) × (last < places) ⌝ }
+    ensures { λ r. ⌜ RowBelow (now (levels .entry)) low last reach r ⌝ }
+{
+    let block = last_below(levels, low, last, 49, reach);
+    let seven = last_below(levels, block, lesser(block + 48, last), 7, reach);
+    last_below(levels, seven, lesser(seven + 6, last), 1, reach)
+}
+
+// R of 100 times the capacity at a level, linear between row `low` and the next, in 0.01 dm³.
+pub fn interpolate(
+    levels: &[u32; PLACES],
+    capacities: &[u32; PLACES],
+    low: usize,
+    level: u32,
+) -> u32
+    requires { ⌜ (low + 1 < places) × Between (gapAt (now levels) (now capacities) low) level ⌝ }
+    ensures { λ r. ⌜ r ≡ interpolated (gapAt (now (levels .entry)) (now (capacities .entry)) low) level ⌝ }
+{
+    let high = low + 1;
+    let passed = in_units(levels[low]);
+    let span = in_units(levels[high]) - passed;
+    let under = capacities[low];
+    let rise = ((capacities[high] - under) as u64) * (level as u64 - passed);
+    // what the lower row has is whole, so only the rise is divided: a small number, for which a division is quick
+    let part = base::round_half_up(100 * rise, span) as u32;
+    100 * under + part
+}

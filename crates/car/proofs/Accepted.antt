@@ -1,0 +1,89 @@
+-- What holds of a car that neither its tables nor its own tests turn away: fields and levels are in range, and nothing is cut off.
+use Prim.Native.Nat.{ℕ, _≤_, _<_}
+use mathlib.Core.Path.{_≡_}
+use mathlib.Core.Bool.{false}
+use mathlib.Core.List.{List, _++_}
+use native.Mathlib.Nat.{le-of-lt}
+use native.Mathlib.Omega.{arith}
+use lib.Dec.{eqb}
+use borrow.Author.Tests.{ltb-false, leb-false, eqb-false}
+use Rattle.base.specs.Limits.{inUnits}
+use Rattle.base.specs.Answer.{Test, accepts, first}
+use Rattle.base.proofs.Choice.{neither}
+use Rattle.base.proofs.Answer.{not-applied, accepted-parts}
+use Rattle.level.specs.Level.{readingsTests}
+use Rattle.table.specs.Table.{Table, tablesVerdict, unknown, lastLevel}
+use Rattle.table.proofs.Rising.{Rising, tables-rising}
+use Rattle.capacity.specs.Capacity.{above, levelTests}
+use Rattle.capacity.proofs.Capacity.{v0-near, v0-whole, v0ˣ-whole}
+use Rattle.grades.specs.Grades.{gradeBad, stickBad, oilTests}
+use Rattle.grades.specs.Inner.{FieldsInRange}
+use Rattle.grades.proofs.Limits.{fields-in-range}
+use Rattle.mass.specs.Inner.{InRange}
+use Rattle.mass.specs.Distance.{Shows}
+use Rattle.mass.proofs.Distance.{shown-near}
+use Rattle.mass.proofs.Uncut.{nothing-cut}
+use Rattle.car.specs.declared.Car.{Car}
+use Rattle.car.specs.declared.Measured.{Measured}
+use Rattle.car.specs.Measured.{rows, earlyTests, lateTests, measuredTests, v0}
+use Rattle.car.specs.Car.{measured, carTests}
+use Rattle.car.specs.Exact.{volumeˣ, Uncut}
+
+-- no refusal of the tables applies, nor 12, 13 or 16 to 21
+pub record Passed (ts : List Table) (m : Measured) : Type 0 where
+  pub tables : tablesVerdict ts ≡ accepts
+  pub early : first (earlyTests ts m) ≡ accepts
+  pub late : first (lateTests ts m) ≡ accepts
+
+pub passed-car : {ts : List Table} (c : Car) → tablesVerdict ts ≡ accepts → first (carTests ts c) ≡ accepts → Passed ts (measured c)
+unfolding carTests measuredTests
+passed-car {ts} c good e =
+    let readings : List Test = readingsTests (c .count) (c .readings) in
+    let p = accepted-parts (readings ++ lateTests ts (measured c)) (earlyTests ts (measured c)) e in
+    record { tables = good; early = p .0; late = accepted-parts (lateTests ts (measured c)) readings (p .1) .1 }
+
+pub grade-known : (ts : List Table) (m : Measured) → first (earlyTests ts m) ≡ accepts → gradeBad (m .grade) ≡ false
+grade-known ts m e = neither (gradeBad (m .grade)) (stickBad (m .stick)) (not-applied 13 (earlyTests ts m) e) .0
+
+-- each test is looked up by its number
+module _ (ts : List Table) (m : Measured) (h : Passed ts m) where
+  pub known : unknown (m .kind) ts ≡ false
+  known = not-applied 12 (earlyTests ts m) (h .early)
+
+  level-in : (0 < m .level) × (m .level ≤ inUnits (lastLevel (rows ts m)))
+  level-in =
+      let p = neither (eqb (m .level) 0) (above (rows ts m) (m .level)) (not-applied 16 (lateTests ts m) (h .late)) in
+      let n = eqb-false (m .level) 0 (p .0) in
+      (omega arith, ltb-false (inUnits (lastLevel (rows ts m))) (m .level) (p .1))
+
+  pub low : m .level ≤ inUnits (lastLevel (rows ts m))
+  low = level-in .1
+
+  pub above-water : inUnits (m .«water_level») < m .level
+  above-water = leb-false (m .level) (inUnits (m .«water_level»)) (not-applied 17 (lateTests ts m) (h .late))
+
+  pub fields : FieldsInRange (m .temperature) (m .density .0) (m .water) (m .impurities)
+  fields =
+      let oil = oilTests (m .grade) (m .temperature) (m .density .0) (m .water) (m .impurities) in
+      fields-in-range (m .grade) (m .temperature) (m .density .0) (m .water) (m .impurities) (grade-known ts m (h .early))
+      (accepted-parts oil (levelTests (rows ts m) (m .level) (m .«water_level»)) (h .late) .1)
+
+  pub rising : Rising (rows ts m)
+  rising = tables-rising (m .kind) ts (h .tables) known
+
+  -- V0 may be shown for the exact volume
+  pub shows : Shows (v0 ts m) (volumeˣ ts m)
+  unfolding v0 volumeˣ
+  shows = shown-near (v0-near (rows ts m) rising (m .«water_level») (le-of-lt above-water) low)
+
+  pub in-range : InRange (v0 ts m) (m .temperature) (m .density .0) (m .water) (m .impurities)
+  in-range = record { full = shows .most; fields = fields }
+
+  -- V0 is the whole difference of the two capacities, rounded and exact, and none of steps 3 to 8 is cut off at 0
+  pub uncut : Uncut ts m
+  unfolding v0 volumeˣ
+  uncut = record {
+    volume = v0-whole (rows ts m) rising (m .«water_level») (le-of-lt above-water) low;
+    exact = v0ˣ-whole (rows ts m) rising (m .«water_level») (le-of-lt above-water) low;
+    steps = nothing-cut in-range;
+  }

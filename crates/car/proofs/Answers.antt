@@ -1,0 +1,92 @@
+-- A car's answer by its tests in the parts in which the code takes them: the first refusal is that of the whole list.
+use Prim.Native.Nat.{ℕ, _≤_}
+use mathlib.Core.Path.{_≡_, refl, sym, ap, _∙_}
+use mathlib.Core.List.{List, [], _∷_, _++_}
+use Rattle.base.specs.Answer.{Test, Verdict, accepts, refuses, first, firstNumber, Answer, refusal, answer}
+use Rattle.base.proofs.Answer.{passed, answer-figures, refuses-append, refused-append, accepted-append, accepted-parts}
+use Rattle.level.specs.Level.{readingsTests}
+use Rattle.table.specs.Table.{Table, tablesTests, tablesVerdict}
+use Rattle.capacity.specs.Capacity.{kindTests, levelTests, volumeTests, volumeOn, volumeTold}
+use Rattle.capacity.specs.declared.Volume.{Volume}
+use Rattle.capacity.specs.declared.Volume.the-variants.{Hundredths, Refused}
+use Rattle.capacity.proofs.Answers.{volume-refused}
+use Rattle.grades.specs.Grades.{codeTests, oilTests}
+use Rattle.car.specs.declared.Car.{Car}
+use Rattle.car.specs.declared.Measured.{Measured}
+use Rattle.car.specs.Measured.{rows, earlyTests, lateTests, measuredTests, v0, figuresFrom, sixFigures}
+use Rattle.car.specs.Car.{numberTests, measured, carTests, figuresOf, ownAnswer, aloneTests, aloneAnswer}
+
+-- the answer by an equal verdict
+by-verdict : (values : List ℕ) {v w : Verdict} → w ≡ v → answer v values ≡ answer w values
+by-verdict values e = sym (ap (λ (u : Verdict). answer u values) e)
+
+-- 12 and 13, the readings' tests, then 16 to 21.
+module _ (ts : List Table) (c : Car) where
+  abbrev m : Measured
+  m = measured c
+
+  abbrev readings : List Test
+  readings = readingsTests (c .count) (c .readings)
+
+  pub own-early : {k : ℕ} → k ≡ firstNumber (earlyTests ts m) → (k ≡ 0 → ⊥) → refusal k ≡ ownAnswer ts c
+  unfolding ownAnswer carTests measuredTests
+  own-early e n = by-verdict (figuresOf ts c) (refused-append (readings ++ lateTests ts m) (earlyTests ts m) e n)
+
+  module _ {k : ℕ} (e : k ≡ firstNumber (earlyTests ts m)) (z : k ≡ 0) where
+    pub early-passed : first (earlyTests ts m) ≡ accepts
+    early-passed = passed (earlyTests ts m) refl e z
+
+    from-readings : first (carTests ts c) ≡ first (readings ++ lateTests ts m)
+    unfolding carTests measuredTests
+    from-readings = accepted-append (readings ++ lateTests ts m) (earlyTests ts m) early-passed
+
+    pub own-readings : {j : ℕ} → j ≡ firstNumber readings → (j ≡ 0 → ⊥) → refusal j ≡ ownAnswer ts c
+    unfolding ownAnswer
+    own-readings f n = by-verdict (figuresOf ts c) (from-readings ∙ refused-append (lateTests ts m) readings f n)
+
+    pub own-late : {j : ℕ} → j ≡ firstNumber readings → j ≡ 0 → answer (first (lateTests ts m)) (figuresOf ts c) ≡ ownAnswer ts c
+    unfolding ownAnswer
+    own-late f y = by-verdict (figuresOf ts c) (from-readings ∙ accepted-append (lateTests ts m) readings (passed readings refl f y))
+
+-- 16 and 17 with the volume, then 18 to 21.
+module _ (ts : List Table) (m : Measured) (number : ℕ) (early : first (earlyTests ts m) ≡ accepts) where
+  abbrev atLevel : List Test
+  atLevel = levelTests (rows ts m) (m .level) (m .«water_level»)
+
+  abbrev ofOil : List Test
+  ofOil = oilTests (m .grade) (m .temperature) (m .density .0) (m .water) (m .impurities)
+
+  -- the volume's tests are 16 and 17
+  from-volume : first (volumeTests ts (m .kind) (m .level) (m .«water_level»)) ≡ first atLevel
+  from-volume = accepted-append atLevel (kindTests ts (m .kind)) (accepted-parts (codeTests (m .grade) (m .stick)) (kindTests ts (m .kind)) early .0)
+
+  module _ (r : Volume) (e : volumeTold r ≡ volumeOn ts (m .kind) (m .level) (m .«water_level»)) where
+    pub volume-away : {n : ℕ} → r ≡ Refused n → refusal n ≡ answer (first (lateTests ts m)) (sixFigures ts number m)
+    volume-away h =
+        by-verdict (sixFigures ts number m) (refuses-append ofOil atLevel (sym from-volume ∙ volume-refused ts (m .kind) (m .level) (m .«water_level») e h))
+
+    pub volume-known : {v : ℕ} → r ≡ Hundredths v → answer (first ofOil) (figuresFrom number m v) ≡ answer (first (lateTests ts m)) (sixFigures ts number m)
+    unfolding volumeOn v0 sixFigures
+    volume-known {v} h =
+        let p = answer-figures (first (volumeTests ts (m .kind) (m .level) (m .«water_level»))) (sym (ap volumeTold h) ∙ e) in
+        let shown : v ≡ v0 ts m = let q = p .1 in cc in
+        rw shown (by-verdict (figuresFrom number m (v0 ts m)) (accepted-append ofOil atLevel (sym from-volume ∙ p .0)))
+
+-- A car alone: its tables, its number, then its own tests.
+module _ (ts : List Table) (c : Car) where
+  pub alone-tables : {k : ℕ} → k ≡ firstNumber (tablesTests ts) → (k ≡ 0 → ⊥) → refusal k ≡ aloneAnswer ts c
+  unfolding aloneAnswer aloneTests
+  alone-tables e n = by-verdict (figuresOf ts c) (refused-append (numberTests (c .number) ++ carTests ts c) (tablesTests ts) e n)
+
+  module _ (good : tablesVerdict ts ≡ accepts) {k : ℕ} (e : k ≡ firstNumber (numberTests (c .number))) where
+    from-number : first (aloneTests ts c) ≡ first (numberTests (c .number) ++ carTests ts c)
+    unfolding aloneTests
+    from-number = accepted-append (numberTests (c .number) ++ carTests ts c) (tablesTests ts) good
+
+    pub alone-number : (k ≡ 0 → ⊥) → refusal k ≡ aloneAnswer ts c
+    unfolding aloneAnswer
+    alone-number n = by-verdict (figuresOf ts c) (from-number ∙ refused-append (carTests ts c) (numberTests (c .number)) e n)
+
+    pub alone-own : k ≡ 0 → ownAnswer ts c ≡ aloneAnswer ts c
+    unfolding aloneAnswer ownAnswer
+    alone-own z = by-verdict (figuresOf ts c) (from-number ∙ accepted-append (carTests ts c) (numberTests (c .number)) (passed (numberTests (c .number)) refl e z))

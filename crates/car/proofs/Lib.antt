@@ -1,0 +1,5 @@
+pub mod Card
+pub mod ExactCard
+pub mod Accepted
+pub mod Masses
+pub mod Answers

@@ -1,0 +1,180 @@
+-- The rack card: the starred figures of document 01, and for each refusal of a car the cars just inside and just outside, in one table that one
+-- statement covers. A car stands by the fourteen numbers of its C line.
+use Prim.Native.Nat.{ℕ}
+use mathlib.Core.Path.{_≡_}
+use mathlib.Core.List.{List, [], _∷_}
+use Rattle.base.specs.Limits.{inUnits}
+use Rattle.base.specs.Answer.{Answer, figures, refusal}
+use Rattle.base.specs.Lists.{Each}
+use Rattle.level.specs.Tape.{allowanceAnswer}
+use Rattle.table.specs.Table.{Table}
+use Rattle.capacity.specs.Capacity.{capacityAnswer}
+use Rattle.thermal.specs.Steps.{exponent}
+use Rattle.thermal.specs.Answers.{expansionAnswer, factorAnswer, density20Answer}
+use Rattle.mass.specs.Steps.{stickCoefficient, hotVolume}
+use Rattle.car.specs.Car.{carOf, aloneAnswer}
+
+-- the table of document 01's sheet
+abbrev pub cardTables : List Table
+cardTables =
+    record {
+      kind = 1;
+      rows =
+          record { level = 0; capacity = 0 }
+          ∷ record { level = 1_000; capacity = 20_000 }
+          ∷ record { level = 2_000; capacity = 50_000 }
+          ∷ record { level = 3_000; capacity = 70_000 }
+          ∷ [];
+    }
+    ∷ []
+
+-- a table that 7 turns away, and one that 8 does
+abbrev badType : Table
+badType = record { kind = 0; rows = record { level = 0; capacity = 0 } ∷ record { level = 1; capacity = 1 } ∷ [] }
+
+abbrev badRow : Table
+badRow = record { kind = 1; rows = record { level = 0; capacity = 0 } ∷ record { level = 0; capacity = 1 } ∷ [] }
+
+-- what the rules give, and what the card says
+pub record Figure : Type 0 where
+  pub reckoned : Answer
+  pub card : Answer
+
+abbrev gives : Answer → Answer → Figure
+gives a b = record { reckoned = a; card = b }
+
+-- a car alone shows six figures, passes, or is refused
+abbrev shows : List ℕ → List ℕ → Figure
+shows ns values = gives (aloneAnswer cardTables (carOf ns)) (figures values)
+
+abbrev withoutFigures : Answer → Answer
+withoutFigures (figures values) = figures []
+withoutFigures (refusal n) = refusal n
+
+abbrev passes : List ℕ → Figure
+passes ns = gives (withoutFigures (aloneAnswer cardTables (carOf ns))) (figures [])
+
+abbrev refused : ℕ → List ℕ → Figure
+refused n ns = gives (aloneAnswer cardTables (carOf ns)) (refusal n)
+
+unfoldable pub card : List Figure
+card =
+    -- B, X, E at 60 °C and the density at 20 °C of the first car's oil; Vt with either stick; the capacity at 1 mm; the tape allowance
+    gives (expansionAnswer 9_500) (figures (718_937 ∷ []))
+    ∷ gives (figures (exponent 718_937 450 ∷ [])) (figures (331_894_951 ∷ []))
+    ∷ gives (factorAnswer 9_500 600) (figures (9_673_552_332 ∷ []))
+    ∷ gives (density20Answer 9_500) (figures (9_466 ∷ []))
+    ∷ gives (figures (hotVolume 3_500_000 (stickCoefficient 1) 600 ∷ [])) (figures (3_507_000 ∷ []))
+    ∷ gives (figures (hotVolume 3_500_000 (stickCoefficient 2) 600 ∷ [])) (figures (3_508_470 ∷ []))
+    ∷ gives (capacityAnswer cardTables 1 (inUnits 1)) (figures (2_000 ∷ []))
+    ∷ gives (allowanceAnswer (inUnits 1_000)) (figures (30 ∷ []))
+    ∷ gives (allowanceAnswer (inUnits 1_001)) (figures (45 ∷ []))
+    -- the first car; with an aluminium stick; the closest three of four readings, upper, lower, and the lower of two triples as close; a half going up; a full car
+    ∷ shows (50_000_001 ∷ 1 ∷ 3 ∷ 1 ∷ 2 ∷ 1_500 ∷ 1_500 ∷ 0 ∷ 0 ∷ 0 ∷ 600 ∷ 9_500 ∷ 50 ∷ 20 ∷ []) (50_000_001 ∷ 1_500 ∷ 3_500_000 ∷ 3_392_515 ∷ 32_229 ∷ 32_003 ∷ [])
+    ∷ shows (50_000_001 ∷ 1 ∷ 3 ∷ 2 ∷ 2 ∷ 1_500 ∷ 1_500 ∷ 0 ∷ 0 ∷ 0 ∷ 600 ∷ 9_500 ∷ 50 ∷ 20 ∷ []) (50_000_001 ∷ 1_500 ∷ 3_500_000 ∷ 3_393_937 ∷ 32_242 ∷ 32_016 ∷ [])
+    ∷ shows (50_000_001 ∷ 1 ∷ 3 ∷ 1 ∷ 4 ∷ 1_500 ∷ 1_504 ∷ 1_501 ∷ 1_502 ∷ 0 ∷ 600 ∷ 9_500 ∷ 50 ∷ 20 ∷ []) (50_000_001 ∷ 1_501 ∷ 3_503_000 ∷ 3_395_423 ∷ 32_257 ∷ 32_031 ∷ [])
+    ∷ shows (50_000_001 ∷ 1 ∷ 3 ∷ 1 ∷ 4 ∷ 1_500 ∷ 1_503 ∷ 1_503 ∷ 1_502 ∷ 0 ∷ 600 ∷ 9_500 ∷ 50 ∷ 20 ∷ []) (50_000_001 ∷ 1_503 ∷ 3_509_000 ∷ 3_401_238 ∷ 32_312 ∷ 32_086 ∷ [])
+    ∷ shows (50_000_001 ∷ 1 ∷ 3 ∷ 1 ∷ 4 ∷ 1_500 ∷ 1_503 ∷ 1_501 ∷ 1_502 ∷ 0 ∷ 600 ∷ 9_500 ∷ 50 ∷ 20 ∷ []) (50_000_001 ∷ 1_501 ∷ 3_503_000 ∷ 3_395_423 ∷ 32_257 ∷ 32_031 ∷ [])
+    ∷ shows (50_000_001 ∷ 1 ∷ 3 ∷ 1 ∷ 2 ∷ 1_500 ∷ 1_501 ∷ 0 ∷ 0 ∷ 0 ∷ 600 ∷ 9_500 ∷ 50 ∷ 20 ∷ []) (50_000_001 ∷ 1_501 ∷ 3_503_000 ∷ 3_395_423 ∷ 32_257 ∷ 32_031 ∷ [])
+    ∷ shows (50_000_001 ∷ 1 ∷ 3 ∷ 1 ∷ 2 ∷ 3_000 ∷ 3_000 ∷ 0 ∷ 0 ∷ 0 ∷ 600 ∷ 9_500 ∷ 50 ∷ 20 ∷ []) (50_000_001 ∷ 3_000 ∷ 7_000_000 ∷ 6_785_030 ∷ 64_458 ∷ 64_007 ∷ [])
+    -- water under the oil: net of the gross as shown, and the light and the dense end of 19
+    ∷ shows (50_000_001 ∷ 1 ∷ 3 ∷ 1 ∷ 2 ∷ 1_500 ∷ 1_500 ∷ 0 ∷ 0 ∷ 500 ∷ 900 ∷ 9_000 ∷ 50 ∷ 20 ∷ []) (50_000_001 ∷ 1_500 ∷ 2_500_000 ∷ 2_361_466 ∷ 21_253 ∷ 21_104 ∷ [])
+    ∷ shows (50_000_001 ∷ 1 ∷ 3 ∷ 1 ∷ 2 ∷ 1_500 ∷ 1_500 ∷ 0 ∷ 0 ∷ 500 ∷ 400 ∷ 9_900 ∷ 50 ∷ 20 ∷ []) (50_000_001 ∷ 1_500 ∷ 2_500_000 ∷ 2_459_631 ∷ 24_350 ∷ 24_180 ∷ [])
+    -- 10
+    ∷ refused 10 (0 ∷ 1 ∷ 3 ∷ 1 ∷ 2 ∷ 1_500 ∷ 1_500 ∷ 0 ∷ 0 ∷ 0 ∷ 600 ∷ 9_500 ∷ 50 ∷ 20 ∷ [])
+    ∷ passes (1 ∷ 1 ∷ 3 ∷ 1 ∷ 2 ∷ 1_500 ∷ 1_500 ∷ 0 ∷ 0 ∷ 0 ∷ 600 ∷ 9_500 ∷ 50 ∷ 20 ∷ [])
+    ∷ passes (99_999_999 ∷ 1 ∷ 3 ∷ 1 ∷ 2 ∷ 1_500 ∷ 1_500 ∷ 0 ∷ 0 ∷ 0 ∷ 600 ∷ 9_500 ∷ 50 ∷ 20 ∷ [])
+    ∷ refused 10 (100_000_000 ∷ 1 ∷ 3 ∷ 1 ∷ 2 ∷ 1_500 ∷ 1_500 ∷ 0 ∷ 0 ∷ 0 ∷ 600 ∷ 9_500 ∷ 50 ∷ 20 ∷ [])
+    -- 12
+    ∷ refused 12 (50_000_001 ∷ 0 ∷ 3 ∷ 1 ∷ 2 ∷ 1_500 ∷ 1_500 ∷ 0 ∷ 0 ∷ 0 ∷ 600 ∷ 9_500 ∷ 50 ∷ 20 ∷ [])
+    ∷ refused 12 (50_000_001 ∷ 2 ∷ 3 ∷ 1 ∷ 2 ∷ 1_500 ∷ 1_500 ∷ 0 ∷ 0 ∷ 0 ∷ 600 ∷ 9_500 ∷ 50 ∷ 20 ∷ [])
+    -- 13
+    ∷ refused 13 (50_000_001 ∷ 1 ∷ 0 ∷ 1 ∷ 2 ∷ 1_500 ∷ 1_500 ∷ 0 ∷ 0 ∷ 0 ∷ 600 ∷ 9_500 ∷ 50 ∷ 20 ∷ [])
+    ∷ passes (50_000_001 ∷ 1 ∷ 1 ∷ 1 ∷ 2 ∷ 1_500 ∷ 1_500 ∷ 0 ∷ 0 ∷ 0 ∷ 600 ∷ 9_500 ∷ 30 ∷ 10 ∷ [])
+    ∷ passes (50_000_001 ∷ 1 ∷ 2 ∷ 1 ∷ 2 ∷ 1_500 ∷ 1_500 ∷ 0 ∷ 0 ∷ 0 ∷ 600 ∷ 9_500 ∷ 30 ∷ 12 ∷ [])
+    ∷ passes (50_000_001 ∷ 1 ∷ 4 ∷ 1 ∷ 2 ∷ 1_500 ∷ 1_500 ∷ 0 ∷ 0 ∷ 0 ∷ 600 ∷ 9_500 ∷ 50 ∷ 20 ∷ [])
+    ∷ refused 13 (50_000_001 ∷ 1 ∷ 5 ∷ 1 ∷ 2 ∷ 1_500 ∷ 1_500 ∷ 0 ∷ 0 ∷ 0 ∷ 600 ∷ 9_500 ∷ 50 ∷ 20 ∷ [])
+    ∷ refused 13 (50_000_001 ∷ 1 ∷ 3 ∷ 0 ∷ 2 ∷ 1_500 ∷ 1_500 ∷ 0 ∷ 0 ∷ 0 ∷ 600 ∷ 9_500 ∷ 50 ∷ 20 ∷ [])
+    ∷ passes (50_000_001 ∷ 1 ∷ 3 ∷ 2 ∷ 2 ∷ 1_500 ∷ 1_500 ∷ 0 ∷ 0 ∷ 0 ∷ 600 ∷ 9_500 ∷ 50 ∷ 20 ∷ [])
+    ∷ refused 13 (50_000_001 ∷ 1 ∷ 3 ∷ 3 ∷ 2 ∷ 1_500 ∷ 1_500 ∷ 0 ∷ 0 ∷ 0 ∷ 600 ∷ 9_500 ∷ 50 ∷ 20 ∷ [])
+    -- 14: with two given both others must be 0; with four given and the first two agreeing the others may be any
+    ∷ refused 14 (50_000_001 ∷ 1 ∷ 3 ∷ 1 ∷ 1 ∷ 1_500 ∷ 1_500 ∷ 0 ∷ 0 ∷ 0 ∷ 600 ∷ 9_500 ∷ 50 ∷ 20 ∷ [])
+    ∷ refused 14 (50_000_001 ∷ 1 ∷ 3 ∷ 1 ∷ 3 ∷ 1_500 ∷ 1_500 ∷ 0 ∷ 0 ∷ 0 ∷ 600 ∷ 9_500 ∷ 50 ∷ 20 ∷ [])
+    ∷ refused 14 (50_000_001 ∷ 1 ∷ 3 ∷ 1 ∷ 5 ∷ 1_500 ∷ 1_500 ∷ 0 ∷ 0 ∷ 0 ∷ 600 ∷ 9_500 ∷ 50 ∷ 20 ∷ [])
+    ∷ refused 14 (50_000_001 ∷ 1 ∷ 3 ∷ 1 ∷ 2 ∷ 1_500 ∷ 1_500 ∷ 1 ∷ 0 ∷ 0 ∷ 600 ∷ 9_500 ∷ 50 ∷ 20 ∷ [])
+    ∷ refused 14 (50_000_001 ∷ 1 ∷ 3 ∷ 1 ∷ 2 ∷ 1_500 ∷ 1_500 ∷ 0 ∷ 1 ∷ 0 ∷ 600 ∷ 9_500 ∷ 50 ∷ 20 ∷ [])
+    ∷ passes (50_000_001 ∷ 1 ∷ 3 ∷ 1 ∷ 4 ∷ 1_500 ∷ 1_500 ∷ 0 ∷ 99_999_999 ∷ 0 ∷ 600 ∷ 9_500 ∷ 50 ∷ 20 ∷ [])
+    -- 15, for two readings only
+    ∷ passes (50_000_001 ∷ 1 ∷ 3 ∷ 1 ∷ 2 ∷ 1_500 ∷ 1_501 ∷ 0 ∷ 0 ∷ 0 ∷ 600 ∷ 9_500 ∷ 50 ∷ 20 ∷ [])
+    ∷ passes (50_000_001 ∷ 1 ∷ 3 ∷ 1 ∷ 2 ∷ 1_501 ∷ 1_500 ∷ 0 ∷ 0 ∷ 0 ∷ 600 ∷ 9_500 ∷ 50 ∷ 20 ∷ [])
+    ∷ refused 15 (50_000_001 ∷ 1 ∷ 3 ∷ 1 ∷ 2 ∷ 1_500 ∷ 1_502 ∷ 0 ∷ 0 ∷ 0 ∷ 600 ∷ 9_500 ∷ 50 ∷ 20 ∷ [])
+    ∷ refused 15 (50_000_001 ∷ 1 ∷ 3 ∷ 1 ∷ 2 ∷ 1_502 ∷ 1_500 ∷ 0 ∷ 0 ∷ 0 ∷ 600 ∷ 9_500 ∷ 50 ∷ 20 ∷ [])
+    ∷ passes (50_000_001 ∷ 1 ∷ 3 ∷ 1 ∷ 4 ∷ 1_500 ∷ 1_502 ∷ 1_501 ∷ 1_501 ∷ 0 ∷ 600 ∷ 9_500 ∷ 50 ∷ 20 ∷ [])
+    -- 16
+    ∷ refused 16 (50_000_001 ∷ 1 ∷ 3 ∷ 1 ∷ 2 ∷ 0 ∷ 0 ∷ 0 ∷ 0 ∷ 0 ∷ 600 ∷ 9_500 ∷ 50 ∷ 20 ∷ [])
+    ∷ passes (50_000_001 ∷ 1 ∷ 3 ∷ 1 ∷ 2 ∷ 0 ∷ 1 ∷ 0 ∷ 0 ∷ 0 ∷ 600 ∷ 9_500 ∷ 50 ∷ 20 ∷ [])
+    ∷ passes (50_000_001 ∷ 1 ∷ 3 ∷ 1 ∷ 2 ∷ 3_000 ∷ 3_000 ∷ 0 ∷ 0 ∷ 0 ∷ 600 ∷ 9_500 ∷ 50 ∷ 20 ∷ [])
+    ∷ refused 16 (50_000_001 ∷ 1 ∷ 3 ∷ 1 ∷ 2 ∷ 3_001 ∷ 3_001 ∷ 0 ∷ 0 ∷ 0 ∷ 600 ∷ 9_500 ∷ 50 ∷ 20 ∷ [])
+    -- 17
+    ∷ passes (50_000_001 ∷ 1 ∷ 3 ∷ 1 ∷ 2 ∷ 1_500 ∷ 1_500 ∷ 0 ∷ 0 ∷ 1_499 ∷ 600 ∷ 9_500 ∷ 50 ∷ 20 ∷ [])
+    ∷ refused 17 (50_000_001 ∷ 1 ∷ 3 ∷ 1 ∷ 2 ∷ 1_500 ∷ 1_500 ∷ 0 ∷ 0 ∷ 1_500 ∷ 600 ∷ 9_500 ∷ 50 ∷ 20 ∷ [])
+    -- 18, by grade
+    ∷ refused 18 (50_000_001 ∷ 1 ∷ 1 ∷ 1 ∷ 2 ∷ 1_500 ∷ 1_500 ∷ 0 ∷ 0 ∷ 0 ∷ 199 ∷ 9_000 ∷ 30 ∷ 10 ∷ [])
+    ∷ passes (50_000_001 ∷ 1 ∷ 1 ∷ 1 ∷ 2 ∷ 1_500 ∷ 1_500 ∷ 0 ∷ 0 ∷ 0 ∷ 200 ∷ 9_000 ∷ 30 ∷ 10 ∷ [])
+    ∷ passes (50_000_001 ∷ 1 ∷ 1 ∷ 1 ∷ 2 ∷ 1_500 ∷ 1_500 ∷ 0 ∷ 0 ∷ 0 ∷ 900 ∷ 9_000 ∷ 30 ∷ 10 ∷ [])
+    ∷ refused 18 (50_000_001 ∷ 1 ∷ 1 ∷ 1 ∷ 2 ∷ 1_500 ∷ 1_500 ∷ 0 ∷ 0 ∷ 0 ∷ 901 ∷ 9_000 ∷ 30 ∷ 10 ∷ [])
+    ∷ refused 18 (50_000_001 ∷ 1 ∷ 2 ∷ 1 ∷ 2 ∷ 1_500 ∷ 1_500 ∷ 0 ∷ 0 ∷ 0 ∷ 199 ∷ 9_000 ∷ 30 ∷ 10 ∷ [])
+    ∷ passes (50_000_001 ∷ 1 ∷ 2 ∷ 1 ∷ 2 ∷ 1_500 ∷ 1_500 ∷ 0 ∷ 0 ∷ 0 ∷ 200 ∷ 9_000 ∷ 30 ∷ 10 ∷ [])
+    ∷ passes (50_000_001 ∷ 1 ∷ 2 ∷ 1 ∷ 2 ∷ 1_500 ∷ 1_500 ∷ 0 ∷ 0 ∷ 0 ∷ 900 ∷ 9_000 ∷ 30 ∷ 10 ∷ [])
+    ∷ refused 18 (50_000_001 ∷ 1 ∷ 2 ∷ 1 ∷ 2 ∷ 1_500 ∷ 1_500 ∷ 0 ∷ 0 ∷ 0 ∷ 901 ∷ 9_000 ∷ 30 ∷ 10 ∷ [])
+    ∷ refused 18 (50_000_001 ∷ 1 ∷ 3 ∷ 1 ∷ 2 ∷ 1_500 ∷ 1_500 ∷ 0 ∷ 0 ∷ 0 ∷ 399 ∷ 9_000 ∷ 30 ∷ 10 ∷ [])
+    ∷ passes (50_000_001 ∷ 1 ∷ 3 ∷ 1 ∷ 2 ∷ 1_500 ∷ 1_500 ∷ 0 ∷ 0 ∷ 0 ∷ 400 ∷ 9_000 ∷ 30 ∷ 10 ∷ [])
+    ∷ passes (50_000_001 ∷ 1 ∷ 3 ∷ 1 ∷ 2 ∷ 1_500 ∷ 1_500 ∷ 0 ∷ 0 ∷ 0 ∷ 900 ∷ 9_000 ∷ 30 ∷ 10 ∷ [])
+    ∷ refused 18 (50_000_001 ∷ 1 ∷ 3 ∷ 1 ∷ 2 ∷ 1_500 ∷ 1_500 ∷ 0 ∷ 0 ∷ 0 ∷ 901 ∷ 9_000 ∷ 30 ∷ 10 ∷ [])
+    ∷ refused 18 (50_000_001 ∷ 1 ∷ 4 ∷ 1 ∷ 2 ∷ 1_500 ∷ 1_500 ∷ 0 ∷ 0 ∷ 0 ∷ 399 ∷ 9_000 ∷ 30 ∷ 10 ∷ [])
+    ∷ passes (50_000_001 ∷ 1 ∷ 4 ∷ 1 ∷ 2 ∷ 1_500 ∷ 1_500 ∷ 0 ∷ 0 ∷ 0 ∷ 400 ∷ 9_000 ∷ 30 ∷ 10 ∷ [])
+    ∷ passes (50_000_001 ∷ 1 ∷ 4 ∷ 1 ∷ 2 ∷ 1_500 ∷ 1_500 ∷ 0 ∷ 0 ∷ 0 ∷ 900 ∷ 9_000 ∷ 30 ∷ 10 ∷ [])
+    ∷ refused 18 (50_000_001 ∷ 1 ∷ 4 ∷ 1 ∷ 2 ∷ 1_500 ∷ 1_500 ∷ 0 ∷ 0 ∷ 0 ∷ 901 ∷ 9_000 ∷ 30 ∷ 10 ∷ [])
+    -- 19
+    ∷ refused 19 (50_000_001 ∷ 1 ∷ 3 ∷ 1 ∷ 2 ∷ 1_500 ∷ 1_500 ∷ 0 ∷ 0 ∷ 0 ∷ 600 ∷ 8_999 ∷ 50 ∷ 20 ∷ [])
+    ∷ passes (50_000_001 ∷ 1 ∷ 3 ∷ 1 ∷ 2 ∷ 1_500 ∷ 1_500 ∷ 0 ∷ 0 ∷ 0 ∷ 600 ∷ 9_000 ∷ 50 ∷ 20 ∷ [])
+    ∷ passes (50_000_001 ∷ 1 ∷ 3 ∷ 1 ∷ 2 ∷ 1_500 ∷ 1_500 ∷ 0 ∷ 0 ∷ 0 ∷ 600 ∷ 9_900 ∷ 50 ∷ 20 ∷ [])
+    ∷ refused 19 (50_000_001 ∷ 1 ∷ 3 ∷ 1 ∷ 2 ∷ 1_500 ∷ 1_500 ∷ 0 ∷ 0 ∷ 0 ∷ 600 ∷ 9_901 ∷ 50 ∷ 20 ∷ [])
+    -- 20, by grade
+    ∷ passes (50_000_001 ∷ 1 ∷ 1 ∷ 1 ∷ 2 ∷ 1_500 ∷ 1_500 ∷ 0 ∷ 0 ∷ 0 ∷ 600 ∷ 9_500 ∷ 30 ∷ 10 ∷ [])
+    ∷ refused 20 (50_000_001 ∷ 1 ∷ 1 ∷ 1 ∷ 2 ∷ 1_500 ∷ 1_500 ∷ 0 ∷ 0 ∷ 0 ∷ 600 ∷ 9_500 ∷ 31 ∷ 10 ∷ [])
+    ∷ refused 20 (50_000_001 ∷ 1 ∷ 1 ∷ 1 ∷ 2 ∷ 1_500 ∷ 1_500 ∷ 0 ∷ 0 ∷ 0 ∷ 600 ∷ 9_500 ∷ 30 ∷ 11 ∷ [])
+    ∷ passes (50_000_001 ∷ 1 ∷ 2 ∷ 1 ∷ 2 ∷ 1_500 ∷ 1_500 ∷ 0 ∷ 0 ∷ 0 ∷ 600 ∷ 9_500 ∷ 30 ∷ 12 ∷ [])
+    ∷ refused 20 (50_000_001 ∷ 1 ∷ 2 ∷ 1 ∷ 2 ∷ 1_500 ∷ 1_500 ∷ 0 ∷ 0 ∷ 0 ∷ 600 ∷ 9_500 ∷ 31 ∷ 12 ∷ [])
+    ∷ refused 20 (50_000_001 ∷ 1 ∷ 2 ∷ 1 ∷ 2 ∷ 1_500 ∷ 1_500 ∷ 0 ∷ 0 ∷ 0 ∷ 600 ∷ 9_500 ∷ 30 ∷ 13 ∷ [])
+    ∷ passes (50_000_001 ∷ 1 ∷ 3 ∷ 1 ∷ 2 ∷ 1_500 ∷ 1_500 ∷ 0 ∷ 0 ∷ 0 ∷ 600 ∷ 9_500 ∷ 100 ∷ 50 ∷ [])
+    ∷ refused 20 (50_000_001 ∷ 1 ∷ 3 ∷ 1 ∷ 2 ∷ 1_500 ∷ 1_500 ∷ 0 ∷ 0 ∷ 0 ∷ 600 ∷ 9_500 ∷ 101 ∷ 50 ∷ [])
+    ∷ refused 20 (50_000_001 ∷ 1 ∷ 3 ∷ 1 ∷ 2 ∷ 1_500 ∷ 1_500 ∷ 0 ∷ 0 ∷ 0 ∷ 600 ∷ 9_500 ∷ 100 ∷ 51 ∷ [])
+    ∷ passes (50_000_001 ∷ 1 ∷ 4 ∷ 1 ∷ 2 ∷ 1_500 ∷ 1_500 ∷ 0 ∷ 0 ∷ 0 ∷ 600 ∷ 9_500 ∷ 100 ∷ 100 ∷ [])
+    ∷ refused 20 (50_000_001 ∷ 1 ∷ 4 ∷ 1 ∷ 2 ∷ 1_500 ∷ 1_500 ∷ 0 ∷ 0 ∷ 0 ∷ 600 ∷ 9_500 ∷ 101 ∷ 100 ∷ [])
+    ∷ refused 20 (50_000_001 ∷ 1 ∷ 4 ∷ 1 ∷ 2 ∷ 1_500 ∷ 1_500 ∷ 0 ∷ 0 ∷ 0 ∷ 600 ∷ 9_500 ∷ 100 ∷ 101 ∷ [])
+    -- 21, for grades 1 and 2
+    ∷ passes (50_000_001 ∷ 1 ∷ 1 ∷ 1 ∷ 2 ∷ 1_500 ∷ 1_500 ∷ 0 ∷ 0 ∷ 0 ∷ 600 ∷ 9_584 ∷ 0 ∷ 0 ∷ [])
+    ∷ refused 21 (50_000_001 ∷ 1 ∷ 1 ∷ 1 ∷ 2 ∷ 1_500 ∷ 1_500 ∷ 0 ∷ 0 ∷ 0 ∷ 600 ∷ 9_585 ∷ 0 ∷ 0 ∷ [])
+    ∷ passes (50_000_001 ∷ 1 ∷ 2 ∷ 1 ∷ 2 ∷ 1_500 ∷ 1_500 ∷ 0 ∷ 0 ∷ 0 ∷ 600 ∷ 9_634 ∷ 0 ∷ 0 ∷ [])
+    ∷ refused 21 (50_000_001 ∷ 1 ∷ 2 ∷ 1 ∷ 2 ∷ 1_500 ∷ 1_500 ∷ 0 ∷ 0 ∷ 0 ∷ 600 ∷ 9_635 ∷ 0 ∷ 0 ∷ [])
+    ∷ passes (50_000_001 ∷ 1 ∷ 4 ∷ 1 ∷ 2 ∷ 1_500 ∷ 1_500 ∷ 0 ∷ 0 ∷ 0 ∷ 600 ∷ 9_900 ∷ 0 ∷ 0 ∷ [])
+    -- two faults: the first in the list is given
+    ∷ gives (aloneAnswer (badType ∷ []) (carOf (0 ∷ 1 ∷ 3 ∷ 1 ∷ 2 ∷ 1_500 ∷ 1_500 ∷ 0 ∷ 0 ∷ 0 ∷ 600 ∷ 9_500 ∷ 50 ∷ 20 ∷ []))) (refusal 7)
+    ∷ gives (aloneAnswer (badRow ∷ []) (carOf (0 ∷ 1 ∷ 3 ∷ 1 ∷ 2 ∷ 1_500 ∷ 1_500 ∷ 0 ∷ 0 ∷ 0 ∷ 600 ∷ 9_500 ∷ 50 ∷ 20 ∷ []))) (refusal 8)
+    ∷ gives (aloneAnswer (badRow ∷ badType ∷ []) (carOf (50_000_001 ∷ 1 ∷ 3 ∷ 1 ∷ 2 ∷ 1_500 ∷ 1_500 ∷ 0 ∷ 0 ∷ 0 ∷ 600 ∷ 9_500 ∷ 50 ∷ 20 ∷ []))) (refusal 8)
+    ∷ refused 10 (0 ∷ 2 ∷ 3 ∷ 1 ∷ 2 ∷ 1_500 ∷ 1_500 ∷ 0 ∷ 0 ∷ 0 ∷ 600 ∷ 9_500 ∷ 50 ∷ 20 ∷ [])
+    ∷ refused 12 (50_000_001 ∷ 2 ∷ 0 ∷ 1 ∷ 2 ∷ 1_500 ∷ 1_500 ∷ 0 ∷ 0 ∷ 0 ∷ 600 ∷ 9_500 ∷ 50 ∷ 20 ∷ [])
+    ∷ refused 13 (50_000_001 ∷ 1 ∷ 0 ∷ 1 ∷ 3 ∷ 1_500 ∷ 1_500 ∷ 0 ∷ 0 ∷ 0 ∷ 600 ∷ 9_500 ∷ 50 ∷ 20 ∷ [])
+    ∷ refused 14 (50_000_001 ∷ 1 ∷ 3 ∷ 1 ∷ 2 ∷ 1_500 ∷ 1_502 ∷ 1 ∷ 0 ∷ 0 ∷ 600 ∷ 9_500 ∷ 50 ∷ 20 ∷ [])
+    ∷ refused 15 (50_000_001 ∷ 1 ∷ 3 ∷ 1 ∷ 2 ∷ 3_001 ∷ 3_003 ∷ 0 ∷ 0 ∷ 0 ∷ 600 ∷ 9_500 ∷ 50 ∷ 20 ∷ [])
+    ∷ refused 16 (50_000_001 ∷ 1 ∷ 3 ∷ 1 ∷ 2 ∷ 3_001 ∷ 3_001 ∷ 0 ∷ 0 ∷ 3_001 ∷ 600 ∷ 9_500 ∷ 50 ∷ 20 ∷ [])
+    ∷ refused 17 (50_000_001 ∷ 1 ∷ 3 ∷ 1 ∷ 2 ∷ 1_500 ∷ 1_500 ∷ 0 ∷ 0 ∷ 1_500 ∷ 399 ∷ 9_500 ∷ 50 ∷ 20 ∷ [])
+    ∷ refused 18 (50_000_001 ∷ 1 ∷ 3 ∷ 1 ∷ 2 ∷ 1_500 ∷ 1_500 ∷ 0 ∷ 0 ∷ 0 ∷ 399 ∷ 8_999 ∷ 50 ∷ 20 ∷ [])
+    ∷ refused 19 (50_000_001 ∷ 1 ∷ 3 ∷ 1 ∷ 2 ∷ 1_500 ∷ 1_500 ∷ 0 ∷ 0 ∷ 0 ∷ 600 ∷ 8_999 ∷ 101 ∷ 20 ∷ [])
+    ∷ refused 20 (50_000_001 ∷ 1 ∷ 1 ∷ 1 ∷ 2 ∷ 1_500 ∷ 1_500 ∷ 0 ∷ 0 ∷ 0 ∷ 600 ∷ 9_585 ∷ 31 ∷ 0 ∷ [])
+    ∷ []
+
+-- the rules give each figure of the card
+pub record AllRight : Type 0 where
+  pub each : Each (λ f. f .reckoned ≡ f .card) card

@@ -1,0 +1,5 @@
+pub mod Measured
+pub mod Exact
+pub mod Car
+pub mod Card
+pub mod ExactCard

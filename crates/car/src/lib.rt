@@ -1,0 +1,52 @@
+// A car worked out on its capacity tables: its refusals in the listed order, or its six figures.
+use thermal::Density15;
+
+mod work; // work.rt: the refusals, then the figures
+
+pub use work::number_refusal;
+pub use work::work_on;
+
+// A car's fields as on its C line: type (kind), grade, stick, number of readings (count), readings and water level in mm,
+// oil temperature in 0.1 °C, density at 15 °C in 0.1 kg/m³, water and impurities in 0.01 %.
+pub struct Car {
+    pub number: u32,
+    pub kind: u32,
+    pub grade: u32,
+    pub stick: u32,
+    pub count: u32,
+    pub readings: [u32; 4],
+    pub water_level: u32,
+    pub temperature: u32,
+    pub density: Density15,
+    pub water: u32,
+    pub impurities: u32,
+}
+
+// What is measured of a car, of which its figures are worked out: the mean level, in units of it, in place of the readings.
+pub struct Measured {
+    pub kind: u32,
+    pub grade: u32,
+    pub stick: u32,
+    pub level: u32,
+    pub water_level: u32,
+    pub temperature: u32,
+    pub density: Density15,
+    pub water: u32,
+    pub impurities: u32,
+}
+
+// The six figures: car number, mean level, V0 and V15 in 0.01 dm³, gross and net in kg.
+pub struct Figures {
+    pub number: u32,
+    pub level: u32,
+    pub v0: u32,
+    pub v15: u32,
+    pub gross: u32,
+    pub net: u32,
+}
+
+// A car's answer: six figures, or the refusal.
+pub enum CarAnswer {
+    Accepted(Figures),
+    Refused(u32),
+}

@@ -1,0 +1,5 @@
+pub mod Copying
+pub mod Handed
+pub mod Lengths
+pub mod Trains
+pub mod Written

@@ -1,0 +1,3 @@
+pub mod Handed
+pub mod Layout
+pub mod Lines

@@ -1,0 +1,3 @@
+pub mod Grades
+pub mod Inner
+pub mod Answers

@@ -1,0 +1,10 @@
+pub mod Rules
+pub mod Passed
+pub mod Steps
+pub mod Turns
+pub mod Text
+pub mod Faults
+pub mod Every
+pub mod Only
+pub mod ByGrammar
+pub mod Examples

@@ -1,0 +1,56 @@
+-- What a line of each letter brings, by its tests, and the last table of a list.
+use Prim.Native.Nat.{ℕ, _-_}
+use mathlib.Core.Path.{_≡_, refl, ap}
+use mathlib.Core.Bool.{true, false}
+use mathlib.Core.List.{List, [], _∷_, _++_}
+use lib.ListN.{length}
+use lib.Dec.{leb, eqb}
+use Rattle.reading.specs.declared.letter.Letter.the-variants.{Table as T, Row as R, Car as C}
+use Rattle.base.specs.Limits.{mostCars}
+use Rattle.table.specs.Table.{Row, Table, tableLineBad, rowBad}
+use Rattle.grammar.specs.Grammar.{kinds, lastRows}
+use Rattle.grammar.specs.Sheet.{State, refusedHere, past, withRow, tableLine, rowLine, carLine, endLine}
+
+module _ (st : State) where
+  pub table-refused : (kind rows : ℕ) → tableLineBad (kinds (st .tables)) kind rows ≡ true → refusedHere st 7 ≡ tableLine st kind rows
+  unfolding tableLine
+  table-refused kind rows e = rw e
+
+  pub table-taken : (kind rows : ℕ) (ts : List Table) → tableLineBad (kinds (st .tables)) kind rows ≡ false → ts ≡ st .tables ++ (record { kind = kind; rows = [] } ∷ [])
+      → past T st rows ts (st .cars) ≡ tableLine st kind rows
+  unfolding tableLine
+  table-taken kind rows ts e p = rw (e, p)
+
+  pub row-refused : (row : Row) → rowBad (lastRows (st .tables)) row ≡ true → refusedHere st 8 ≡ rowLine st row
+  unfolding rowLine
+  row-refused row e = rw e
+
+  pub row-taken : (row : Row) (ts : List Table) → rowBad (lastRows (st .tables)) row ≡ false → ts ≡ withRow (st .tables) row
+      → past R st (st .owed - 1) ts (st .cars) ≡ rowLine st row
+  unfolding rowLine
+  row-taken row ts e p = rw (e, p)
+
+  pub car-refused : (numbers : List ℕ) → leb mostCars (length (st .cars)) ≡ true → refusedHere st 9 ≡ carLine st numbers
+  unfolding carLine
+  car-refused numbers e = rw e
+
+  pub car-taken : (numbers : List ℕ) (cs : List (List ℕ)) → leb mostCars (length (st .cars)) ≡ false → cs ≡ st .cars ++ (numbers ∷ [])
+      → past C st (st .owed) (st .tables) cs ≡ carLine st numbers
+  unfolding carLine
+  car-taken numbers cs e p = rw (e, p)
+
+  pub end-refused : (bytes count : ℕ) → eqb count (length (st .cars)) ≡ false → refusedHere st 9 ≡ endLine bytes st count
+  unfolding endLine
+  end-refused bytes count e = rw e
+
+-- The last of a list.
+
+pub with-row-last : (ts : List Table) (t : Table) (row : Row) → withRow (ts ++ (t ∷ [])) row ≡ ts ++ (record { kind = t .kind; rows = t .rows ++ (row ∷ []) } ∷ [])
+with-row-last [] t row = refl
+with-row-last (u ∷ []) t row = refl
+with-row-last (u ∷ v ∷ ts) t row = ap (λ (x : List Table). u ∷ x) (with-row-last (v ∷ ts) t row)
+
+pub last-rows-last : (ts : List Table) (t : Table) → lastRows (ts ++ (t ∷ [])) ≡ t .rows
+last-rows-last [] t = refl
+last-rows-last (u ∷ []) t = refl
+last-rows-last (u ∷ v ∷ ts) t = last-rows-last (v ∷ ts) t

@@ -1,0 +1,74 @@
+-- Laws of a sheet's text: lines joined, and its length.
+use Prim.Native.Nat.{ℕ, _+_, _*_, _≤_}
+use mathlib.Core.Path.{_≡_, refl, ap, sym, _∙_}
+use mathlib.Core.List.{List, [], _∷_, _++_, map, append-assoc, append-nil}
+use native.Mathlib.Nat.{add-zero}
+use native.Mathlib.Omega.{arith}
+use lib.ListN.{length, length-append}
+use Rattle.base.specs.Answer.{accepts, first}
+use Rattle.base.specs.Limits.{mostRows}
+use Rattle.reading.specs.declared.letter.Letter.the-variants.{Table as T, Row as R, Car as C, End as E}
+use Rattle.reading.specs.declared.letter.Line.{Line}
+use Rattle.reading.specs.Letter.{widthOf, mostFields}
+use Rattle.line.specs.Writing.{lineOf}
+use Rattle.line.proofs.Bytes.{length-lineOf}
+use Rattle.table.specs.Table.{Row, Table, tablesTestsAfter}
+use Rattle.table.proofs.Table.{next-table}
+use Rattle.grammar.specs.Text.{textOf}
+use Rattle.grammar.specs.Grammar.{tLine, rLine, cLine, eLine, tableLines, tablesLines, sheetText, CarNumbers, EachCar, WholeSheet, tablesBegun}
+use Rattle.grammar.specs.Sheet.{longest}
+
+pub text-append : (a b : List Line) → textOf (a ++ b) ≡ textOf a ++ textOf b
+unfolding textOf
+text-append [] b = refl
+text-append (l ∷ a) b = ap (λ (x : List ℕ). lineOf l ++ x) (text-append a b) ∙ sym (append-assoc (lineOf l) (textOf a) (textOf b))
+
+pub text-snoc : (a : List Line) (l : Line) → textOf (a ++ (l ∷ [])) ≡ textOf a ++ lineOf l
+unfolding textOf
+text-snoc a l = text-append a (l ∷ []) ∙ ap (λ (x : List ℕ). textOf a ++ x) (append-nil (lineOf l))
+
+-- a beginning that lacks nothing is the tables' lines
+pub begun-all : (ts : List Table) → tablesBegun ts 0 ≡ tablesLines ts
+begun-all [] = refl
+begun-all (t ∷ []) = ap (λ (n : ℕ). tLine (t .kind) n ∷ map rLine (t .rows)) (add-zero (length (t .rows))) ∙ sym (append-nil (tableLines t))
+begun-all (t ∷ u ∷ ts) = ap (λ (x : List Line). tableLines t ++ x) (begun-all (u ∷ ts))
+
+-- Its length.
+
+text-length : (a b : List Line) → length (textOf (a ++ b)) ≡ length (textOf a) + length (textOf b)
+text-length a b = ap length (text-append a b) ∙ length-append (textOf a) (textOf b)
+
+rows-length : (rows : List Row) → length (textOf (map rLine rows)) ≡ widthOf R * length rows
+unfolding textOf
+rows-length [] = refl
+rows-length (row ∷ rows) = rw (length-append, length-lineOf (rLine row) refl, rows-length rows) (omega arith)
+
+tables-length : (used : List ℕ) (ts : List Table) → first (tablesTestsAfter used ts) ≡ accepts
+    → length (textOf (tablesLines ts)) ≤ (widthOf T + mostRows * widthOf R) * length ts
+unfolding textOf
+tables-length used [] e = omega arith
+tables-length used (t ∷ ts) e =
+    let n = next-table used t ts e in
+    let line : length (lineOf (tLine (t .kind) (length (t .rows)))) ≡ widthOf T = length-lineOf (tLine (t .kind) (length (t .rows))) refl in
+    let one : length (textOf (tableLines t)) ≡ length (lineOf (tLine (t .kind) (length (t .rows)))) + length (textOf (map rLine (t .rows))) = length-append (lineOf (tLine (t .kind) (length (t .rows)))) (textOf (map rLine (t .rows))) in
+    omega (arith, text-length (tableLines t) (tablesLines ts), rows-length (t .rows), n .line .most, tables-length (used ++ (t .kind ∷ [])) ts (n .rest))
+
+pub car-places : (car : List ℕ) → CarNumbers car → length (cLine car .numbers) ≡ mostFields
+car-places car h = ap length (append-nil car) ∙ h .fourteen
+
+cars-length : (cars : List (List ℕ)) → EachCar cars → length (textOf (map cLine cars)) ≡ widthOf C * length cars
+unfolding textOf
+cars-length [] e = refl
+cars-length (car ∷ cars) (e, es) = rw (length-append, length-lineOf (cLine car) (car-places car e), cars-length cars es) (omega arith)
+
+pub text-short : (ts : List Table) (cars : List (List ℕ)) → WholeSheet ts cars → length (sheetText ts cars) ≤ longest
+unfolding textOf
+text-short ts cars w =
+    let end : length (textOf (eLine (length cars) ∷ [])) ≡ widthOf E = ap length (append-nil (lineOf (eLine (length cars)))) ∙ length-lineOf (eLine (length cars)) refl in
+    omega (
+      arith,
+      text-length (tablesLines ts) (map cLine cars ++ (eLine (length cars) ∷ [])),
+      text-length (map cLine cars) (eLine (length cars) ∷ []),
+      tables-length [] ts (w .accepted),
+      cars-length cars (w .each),
+    )

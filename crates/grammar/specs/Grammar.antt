@@ -1,0 +1,111 @@
+-- The lines of a sheet from its tables and cars, and what document 01 asks of them; no word of how a sheet is read.
+use Prim.Native.Nat.{ℕ, zero, suc, _+_, _≤_, _<_}
+use mathlib.Core.Path.{_≡_}
+use mathlib.Core.Bool.{true, false}
+use mathlib.Core.List.{List, [], _∷_, _++_, map}
+use lib.ListN.{length}
+use Rattle.base.specs.Answer.{accepts, first}
+use Rattle.base.specs.Limits.{mostTables, mostCars}
+use Rattle.base.specs.Lists.{Each}
+use Rattle.reading.specs.declared.letter.Letter.{Letter}
+use Rattle.reading.specs.declared.letter.Letter.the-variants.{Table as T, Row as R, Car as C, End as E}
+use Rattle.reading.specs.declared.letter.Line.{Line}
+use Rattle.reading.specs.Letter.{mostFields}
+use Rattle.line.specs.Writing.{smallTo}
+use Rattle.table.specs.Table.{Row, Table, tableLineBad, rowsTests, tablesVerdict}
+use Rattle.grammar.specs.Text.{lineWith, textOf}
+
+-- Lines.
+
+-- T: type, number of rows
+abbrev pub tLine : ℕ → ℕ → Line
+tLine kind rows = lineWith T (kind ∷ rows ∷ [])
+
+-- R: level, capacity
+abbrev pub rLine : Row → Line
+rLine row = lineWith R (row .level ∷ row .capacity ∷ [])
+
+-- C: the car's fourteen numbers
+abbrev pub cLine : List ℕ → Line
+cLine numbers = lineWith C numbers
+
+-- E: number of C lines
+abbrev pub eLine : ℕ → Line
+eLine cars = lineWith E (cars ∷ [])
+
+-- A whole sheet.
+
+-- a table: its T line, then an R line for each row
+abbrev pub tableLines : Table → List Line
+tableLines t = tLine (t .kind) (length (t .rows)) ∷ map rLine (t .rows)
+
+abbrev pub tablesLines : List Table → List Line
+tablesLines [] = []
+tablesLines (t ∷ ts) = tableLines t ++ tablesLines ts
+
+-- the tables, then a C line for each car, then E
+abbrev pub sheetLines : List Table → List (List ℕ) → List Line
+sheetLines tables cars = tablesLines tables ++ (map cLine cars ++ (eLine (length cars) ∷ []))
+
+abbrev pub sheetText : List Table → List (List ℕ) → List ℕ
+sheetText tables cars = textOf (sheetLines tables cars)
+
+-- fourteen numbers, none above 99,999,999
+pub record CarNumbers (numbers : List ℕ) : Type 0 where
+  pub fourteen : length numbers ≡ mostFields
+  pub small : smallTo numbers mostFields ≡ true
+
+abbrev pub EachCar : List (List ℕ) → Type 0
+EachCar = Each CarNumbers
+
+-- one to four tables, to which neither 7 nor 8 applies, and at most sixty cars
+pub record WholeSheet (tables : List Table) (cars : List (List ℕ)) : Type 0 where
+  pub some : 1 ≤ length tables
+  pub four : length tables ≤ mostTables
+  pub accepted : tablesVerdict tables ≡ accepts
+  pub sixty : length cars ≤ mostCars
+  pub each : EachCar cars
+
+-- The beginning of a sheet: tables, of which the last still lacks `owed` rows, and cars.
+
+-- the tables' lines; the last T line has told how many rows its table will have
+abbrev pub tablesBegun : List Table → ℕ → List Line
+tablesBegun [] owed = []
+tablesBegun (t ∷ []) owed = tLine (t .kind) (length (t .rows) + owed) ∷ map rLine (t .rows)
+tablesBegun (t ∷ u ∷ ts) owed = tableLines t ++ tablesBegun (u ∷ ts) owed
+
+abbrev pub linesBegun : List Table → ℕ → List (List ℕ) → List Line
+linesBegun tables owed cars = tablesBegun tables owed ++ map cLine cars
+
+-- each T line and each row so far is as 7 and 8 ask, behind tables of the types `used`
+abbrev pub Passed : List ℕ → List Table → ℕ → Type 0
+Passed used [] owed = owed ≡ 0
+Passed used (t ∷ []) owed = (tableLineBad used (t .kind) (length (t .rows) + owed) ≡ false) × (first (rowsTests (t .rows)) ≡ accepts)
+Passed used (t ∷ u ∷ ts) owed =
+    (tableLineBad used (t .kind) (length (t .rows)) ≡ false) × (first (rowsTests (t .rows)) ≡ accepts) × Passed (used ++ (t .kind ∷ [])) (u ∷ ts) owed
+
+-- and a car comes behind tables that lack no row
+pub record Begun (tables : List Table) (owed : ℕ) (cars : List (List ℕ)) : Type 0 where
+  pub passed : Passed [] tables owed
+  pub behind : 0 < length cars → (owed ≡ 0) × (0 < length tables)
+  pub sixty : length cars ≤ mostCars
+  pub each : EachCar cars
+
+-- The line behind a beginning.
+
+-- the types of tables
+abbrev pub kinds : List Table → List ℕ
+kinds = map (λ (t : Table). t .kind)
+
+-- the rows of the last table so far
+abbrev pub lastRows : List Table → List Row
+lastRows [] = []
+lastRows (t ∷ []) = t .rows
+lastRows (t ∷ u ∷ ts) = lastRows (u ∷ ts)
+
+-- the letters that may come next: R exactly while rows are lacking, else T until there is a car, and C and E once there is a table
+abbrev pub mayCome : List Table → ℕ → List (List ℕ) → List Letter
+mayCome tables (suc owed) cars = R ∷ []
+mayCome [] zero cars = T ∷ []
+mayCome (t ∷ ts) zero [] = T ∷ C ∷ E ∷ []
+mayCome (t ∷ ts) zero (car ∷ cars) = C ∷ E ∷ []

@@ -1,0 +1,21 @@
+-- Document 01's listing, computed from the definitions.
+use mathlib.Core.Path.{refl}
+use Rattle.base.specs.Rounding.{rounded}
+use Rattle.field.specs.Field.{seenTo, fieldAt, justified, fieldOf}
+use Rattle.reading.specs.Reading.{letterOf, feed, feedAt, good, values, lineBy, lineAt}
+use Rattle.line.specs.Writing.{fieldsOf, lineOf}
+use Rattle.level.specs.Level.{meanLevel, unusedBad, disagree}
+use Rattle.capacity.specs.Capacity.{interpolated, capacityAt}
+use Rattle.capacity.specs.Capacity as capacity
+use Rattle.thermal.specs.Steps as thermal
+use Rattle.mass.specs.Steps as steps
+use Rattle.car.specs.Measured.{measuredTests, v0, mass, sixFigures}
+use Rattle.car.specs.Car.{carTests}
+use Rattle.train.specs.Train.{full, admissionTests, enterTests, enterAnswer, enterTrain}
+use Rattle.grammar.specs.Sheet.{tableLine, rowLine, carLine, endLine, stepOf, lines, sheetOf}
+use Rattle.grammar.specs.Text.{textOf}
+use Rattle.listing.specs.Paper.{paperSheet, paperListing, PaperExample}
+
+pub paper-example : PaperExample
+unfolding paperSheet paperListing textOf rounded seenTo fieldAt justified fieldOf letterOf feed feedAt good values lineBy lineAt fieldsOf lineOf meanLevel unusedBad disagree interpolated capacityAt capacity.v0 thermal.expansion thermal.exponent thermal.term thermal.series thermal.factor thermal.densityAt steps.stickCoefficient steps.hotVolume steps.coldVolume steps.gross steps.net steps.volume15Of steps.grossOf steps.netOf measuredTests v0 mass sixFigures carTests full admissionTests enterTests enterAnswer enterTrain tableLine rowLine carLine endLine stepOf lines sheetOf
+paper-example = record { listing = refl }

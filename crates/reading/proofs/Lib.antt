@@ -1,0 +1,5 @@
+pub mod Letters
+pub mod Fields
+pub mod Lines
+pub mod Row
+pub mod Answers

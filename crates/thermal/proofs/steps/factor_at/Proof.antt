@@ -1,0 +1,31 @@
+-- `thermal::steps::factor_at` meets its contract: B and X are within the bounds of the budget.
+use borrow.Author.Needs.{needs}
+use mathlib.Core.Path.{_≡_}
+use native.Mathlib.Omega.{arith}
+use Rattle.thermal.specs.Steps
+use Rattle.thermal.specs.Steps.{factor}
+use Rattle.thermal.proofs.Bounds.{expansion-most, exponent-most, factor-most}
+use Rattle.thermal.proofs.steps.factor_at.Statement.{statement}
+use Rattle.thermal.proofs.steps.factor_at.Tie as tie
+
+expansion-requires : tie.Need-expansion-requires
+expansion-requires c κs = search needs
+
+exponent-requires : tie.Need-exponent-requires
+exponent-requires c κs = omega (arith, c .expansion .ensures, expansion-most (c .before .pre .0 .light))
+
+series-requires : tie.Need-series-requires
+series-requires c κs =
+    let a = c .before .before in
+    let e : c .exponent .result ≡ Steps.exponent (Steps.expansion (a .args .density .0)) (a .args .d) = cc in
+    omega (arith, exponent-most (expansion-most (a .pre .0 .light)) (a .pre .1))
+
+returns : tie.Need-returns
+unfolding factor
+returns c =
+    let a = c .before .before .before in
+    let e : c .series .result ≡ Steps.factor (a .args .density .0) (a .args .d) = cc in
+    (e, omega (arith, factor-most (a .pre .0 .light) (a .pre .1)))
+
+pub factor-at-spec : {M : Type 1} → statement M
+factor-at-spec = tie.close (tie.spec expansion-requires exponent-requires series-requires returns)

@@ -1,0 +1,81 @@
+// How fuel oil and its density change with temperature: steps 4, 5, 6 and 9 of document 01, and what callers may ask of a density and a temperature.
+ghost use mathlib.Core.Path.{_≡_};
+ghost use Rattle.thermal.specs.Answers.{
+  expansionTold,
+  expansionAnswer,
+  factorTold,
+  factorAnswer,
+  density20Told,
+  density20Answer,
+};
+
+mod refusals; // refusals.rt: the limits, and refusals 18 and 19 by their numbers
+mod steps; // steps.rt: steps 4, 5, 6 and 9
+
+// For the crates of the grades and of the masses.
+pub use refusals::HIGHEST_TEMPERATURE;
+pub use refusals::density_refusal;
+pub use refusals::outside_refusal;
+pub use steps::UNITY;
+pub use steps::density_20;
+pub use steps::factor_at;
+
+// A density at 15 °C and a density at 20 °C, in 0.1 kg/m³, each a type of its own: one is never taken for the other.
+pub struct Density15(pub u32);
+
+pub struct Density20(pub u32);
+
+// B in 10⁻⁹ per °C, or a refusal.
+pub enum Expansion {
+    Billionths(u32),
+    Refused(u32),
+}
+
+// E in 10⁻¹⁰, or a refusal.
+pub enum Factor {
+    TenBillionths(u64),
+    Refused(u32),
+}
+
+// The density at 20 °C, or a refusal.
+pub enum DensityAt20 {
+    Density(Density20),
+    Refused(u32),
+}
+
+// B of step 4, or 19.
+pub fn expansion_of(density: Density15) -> Expansion
+    ensures { λ r. ⌜ expansionTold r ≡ expansionAnswer (density .0) ⌝ }
+{
+    let refusal = refusals::density_refusal(density);
+    if refusal != 0 {
+        return Expansion::Refused(refusal);
+    }
+    Expansion::Billionths(steps::expansion(density))
+}
+
+// E of step 6 between the temperature, in 0.1 °C, and 15 °C, or the first of 18 and 19.
+pub fn factor_of(density: Density15, temperature: u32) -> Factor
+    ensures { λ r. ⌜ factorTold r ≡ factorAnswer (density .0) temperature ⌝ }
+{
+    let by_temperature = refusals::temperature_refusal_any_grade(temperature);
+    if by_temperature != 0 {
+        return Factor::Refused(by_temperature);
+    }
+    let by_density = refusals::density_refusal(density);
+    if by_density != 0 {
+        return Factor::Refused(by_density);
+    }
+    Factor::TenBillionths(steps::factor_at(density, temperature - 150))
+}
+
+// The density at 20 °C of step 9, or 19.
+pub fn density_at_20(density: Density15) -> DensityAt20
+    ensures { λ r. ⌜ density20Told r ≡ density20Answer (density .0) ⌝ }
+{
+    let refusal = refusals::density_refusal(density);
+    if refusal != 0 {
+        return DensityAt20::Refused(refusal);
+    }
+    DensityAt20::Density(steps::density_20(density))
+}

@@ -1,0 +1,81 @@
+// Steps 4, 5, 6 and 9 of document 01 in 64-bit arithmetic, each equal to its definition in specs/Steps.antt.
+ghost use mathlib.Core.Path.{_≡_};
+ghost use Prim.Native.Nat.{_+_, _*_, _≤_};
+ghost use Rattle.base.specs.Rounding.{rounded};
+ghost use Rattle.thermal.specs.Steps;
+ghost use Rattle.thermal.specs.Steps.{unity};
+ghost use Rattle.thermal.specs.Inner.{
+  DensityInRange,
+  mostAbove15,
+  mostExpansion,
+  mostExponent,
+  mostFactor,
+};
+use crate::Density15;
+use crate::Density20;
+
+// 1, in the unit 10⁻¹⁰ of steps 5 to 9.
+pub const UNITY: u64 = 10_000_000_000;
+
+// Step 4: B, in 10⁻⁹ per °C.
+pub(crate) fn expansion(density: Density15) -> u32
+    requires { ⌜ DensityInRange (density .0) ⌝ }
+    ensures { λ r. ⌜ r ≡ Steps.expansion (density .0) ⌝ }
+{
+    let r = density.0 as u64;
+    base::round_half_up(18_696_960_000_000 + 4_861_800_000 * r, r * r) as u32
+}
+
+// Step 5: X, in 10⁻¹⁰, for d tenths of a degree.
+fn exponent(b: u32, d: u32) -> u64
+    requires { ⌜ (b ≤ mostExpansion) × (d ≤ mostAbove15) ⌝ }
+    ensures { λ r. ⌜ r ≡ Steps.exponent b d ⌝ }
+{
+    let y = b as u64 * d as u64;
+    y + base::round_half_up(8 * (y * y), 100_000_000_000)
+}
+
+// Step 6: the term of number k, from the one before it, of which it is at most a sixteenth, but for the rounding.
+fn next_term(u: u64, x: u64, k: u64) -> u64
+    requires { ⌜ (u ≤ mostExponent) × (x ≤ mostExponent) × (2 ≤ k) × (k ≤ 6) ⌝ }
+    ensures { λ r. ⌜ (r ≡ rounded (u * x) (k * unity)) × (16 * r ≤ u + 32) ⌝ }
+{
+    base::round_half_up(u * x, k * UNITY)
+}
+
+// Step 6: the sum of the series for the exponent x.
+fn series(x: u64) -> u64
+    requires { ⌜ x ≤ mostExponent ⌝ }
+    ensures { λ r. ⌜ r ≡ Steps.series x ⌝ }
+{
+    let u2 = next_term(x, x, 2);
+    let u3 = next_term(u2, x, 3);
+    let u4 = next_term(u3, x, 4);
+    let u5 = next_term(u4, x, 5);
+    let u6 = next_term(u5, x, 6);
+    UNITY - x + u2 - u3 + u4 - u5 + u6
+}
+
+// Step 6: E(d), in 10⁻¹⁰, for d tenths of a degree.
+pub fn factor_at(density: Density15, d: u32) -> u64
+    requires { ⌜ DensityInRange (density .0) × (d ≤ mostAbove15) ⌝ }
+    ensures { λ r. ⌜ (r ≡ Steps.factor (density .0) d) × (r ≤ mostFactor) ⌝ }
+{
+    series(exponent(expansion(density), d))
+}
+
+// Step 9, for any temperature: the density d tenths of a degree above 15 °C, in 0.1 kg/m³.
+fn density_at(density: Density15, d: u32) -> u32
+    requires { ⌜ DensityInRange (density .0) × (d ≤ mostAbove15) ⌝ }
+    ensures { λ r. ⌜ r ≡ Steps.densityAt (density .0) d ⌝ }
+{
+    base::round_half_up(density.0 as u64 * factor_at(density, d), UNITY) as u32
+}
+
+// Step 9: the density at 20 °C.
+pub fn density_20(density: Density15) -> Density20
+    requires { ⌜ DensityInRange (density .0) ⌝ }
+    ensures { λ r. ⌜ r .0 ≡ Steps.density20 (density .0) ⌝ }
+{
+    Density20(density_at(density, 50))
+}

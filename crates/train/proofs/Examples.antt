@@ -1,0 +1,34 @@
+-- The examples, computed from the definitions.
+use mathlib.Core.Path.{refl}
+use Rattle.base.specs.Rounding.{rounded}
+use Rattle.level.specs.Level.{meanLevel, unusedBad, disagree}
+use Rattle.capacity.specs.Capacity.{interpolated, capacityAt}
+use Rattle.capacity.specs.Capacity as capacity
+use Rattle.thermal.specs.Steps as thermal
+use Rattle.mass.specs.Steps as steps
+use Rattle.car.specs.Measured.{measuredTests, v0, mass}
+use Rattle.car.specs.Car.{carTests, aloneTests, aloneAnswer}
+use Rattle.train.specs.Train.{full, admissionTests, enterTests, enterAnswer, enterTrain}
+use Rattle.train.specs.Book.{bookAdmission}
+use Rattle.train.specs.Examples.{list, BookExample, OrderExample, enteredCars, EnterOrder}
+
+pub book-example : BookExample
+unfolding list full bookAdmission admissionTests enterTrain carTests measuredTests rounded meanLevel unusedBad disagree interpolated capacityAt capacity.v0 thermal.expansion thermal.exponent thermal.term thermal.series thermal.factor thermal.densityAt steps.stickCoefficient steps.hotVolume steps.coldVolume steps.gross steps.net steps.volume15Of steps.grossOf steps.netOf v0 mass
+book-example = record { book = refl; verdicts = refl; count = refl; gross = refl; net = refl }
+
+pub order-example : OrderExample
+unfolding aloneAnswer aloneTests carTests measuredTests rounded meanLevel unusedBad disagree interpolated capacityAt thermal.expansion thermal.exponent thermal.term thermal.series thermal.factor thermal.densityAt
+order-example = record {
+  comparable = record {
+    first = refl;
+    second = refl;
+    table = record { kind = refl; rows = refl };
+    alike = record { grade = refl; stick = refl; water-level = refl; temperature = refl; density = refl; water = refl; impurities = refl };
+  };
+  lower = refl;
+  higher = refl;
+}
+
+pub enter-order : EnterOrder
+unfolding enteredCars full admissionTests enterTests enterAnswer carTests measuredTests
+enter-order = record { each = (refl, (refl, (refl, (refl, (refl, (refl, (refl, (refl, (refl, (refl, tt)))))))))) }

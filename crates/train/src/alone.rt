@@ -1,0 +1,37 @@
+// A car worked out alone.
+ghost use mathlib.Core.Path.{_≡_};
+ghost use Rattle.table.specs.Layout.{tablesOf};
+ghost use Rattle.car.specs.Car.{measured, aloneAnswer, carTold};
+ghost use Rattle.train.specs.Demand3.{Close, InOrder};
+ghost use Rattle.car.specs.Card.{AllRight};
+ghost use Rattle.car.specs.ExactCard.{ExactRight};
+ghost use Rattle.train.specs.Examples.{OrderExample};
+use car::Car;
+use car::CarAnswer;
+use table::Directory;
+use table::PLACES;
+
+// 7 and 8 of its tables, 10, then the first of 12 to 21, or its figures.
+pub fn work_out(
+    d: Directory,
+    levels: &[u32; PLACES],
+    capacities: &[u32; PLACES],
+    car: Car,
+) -> CarAnswer
+    ensures { λ r. ⌜
+        (carTold r ≡ aloneAnswer (tablesOf d (now (levels .entry)) (now (capacities .entry))) car)
+        × Close (tablesOf d (now (levels .entry)) (now (capacities .entry))) (measured car) (carTold r)
+        × InOrder (tablesOf d (now (levels .entry)) (now (capacities .entry))) (measured car) (carTold r)
+        × AllRight × ExactRight × OrderExample
+        ⌝ }
+{
+    let by_tables = table::check_tables(d, levels, capacities);
+    if by_tables != 0 {
+        return CarAnswer::Refused(by_tables);
+    }
+    let by_number = car::number_refusal(car.number);
+    if by_number != 0 {
+        return CarAnswer::Refused(by_number);
+    }
+    car::work_on(d, levels, capacities, car)
+}
