@@ -11,6 +11,7 @@ pub mod level;
 pub mod line;
 pub mod listing;
 pub mod mass;
+pub mod operations;
 pub mod refusal;
 pub mod rounding;
 pub mod sheet;

@@ -10,7 +10,8 @@ pub const CARS: usize = 60;
 /// No train's total passes this many kg.
 const LARGEST_TOTAL: u64 = 12_000_000;
 
-/// A train. `Train::default()` is the empty one.
+/// A train, of which nothing is taken for granted where a caller hands it in. `Train::default()` is
+/// the empty one.
 #[derive(Clone, Debug, PartialEq, Eq)]
 pub struct Train {
     /// Accepted cars.
@@ -18,8 +19,9 @@ pub struct Train {
     /// Totals of the accepted cars, in kg.
     pub gross: u64,
     pub net: u64,
-    numbers: [u32; CARS],
-    held: usize,
+    /// The numbers that it holds, in the first `held` places.
+    pub numbers: [u32; CARS],
+    pub held: usize,
 }
 
 impl Default for Train {

@@ -25,7 +25,7 @@ fn names_differ_and_sheets_are_small() {
     assert_eq!(names.len(), cases.len());
     assert!(cases.len() >= 100);
     let large = cases.iter().filter(|case| case.sheet.len() > 10_000).count();
-    assert_eq!(large, 2);
+    assert_eq!(large, 3);
 }
 
 #[test]
@@ -60,4 +60,22 @@ fn names_tell_the_outcome() {
             assert!(whole, "{}", case.name);
         }
     }
+}
+
+#[test]
+fn the_index_has_every_sheet_once() {
+    let cases = cases();
+    let index = reference::conformance::index::of(&cases);
+    for case in &cases {
+        let row = format!("| `{}` | ", case.name);
+        assert_eq!(index.matches(&row).count(), 1, "{}", case.name);
+    }
+}
+
+#[test]
+fn the_paper_s_car_has_the_card_s_figures_on_the_way() {
+    let steps = reference::conformance::steps::of(&cases());
+    let figures = "| `paper-sheet` | 50000001 | 1500 | 3500000 | 3507000 | 718937 | 331894951 |";
+    assert!(steps.contains(figures));
+    assert!(steps.contains("| 9673552332 | 3392515 | 32229 | 32003 |"));
 }

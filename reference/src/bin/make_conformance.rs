@@ -1,4 +1,5 @@
-//! Writes the conformance sheets and their listings: `make_conformance FOLDER`.
+//! Writes the conformance sheets, their listings, their index and figures on the way:
+//! `make_conformance FOLDER`.
 
 use std::fs;
 use std::path::Path;
@@ -24,7 +25,10 @@ fn main() -> ExitCode {
 
 fn write_cases(folder: &Path) -> std::io::Result<()> {
     fs::create_dir_all(folder)?;
-    for case in conformance::cases() {
+    let cases = conformance::cases();
+    fs::write(folder.join("INDEX.md"), conformance::index::of(&cases))?;
+    fs::write(folder.join("STEPS.md"), conformance::steps::of(&cases))?;
+    for case in cases {
         let listing = listing::of(&case.sheet);
         fs::write(folder.join(format!("{}.sheet", case.name)), &case.sheet)?;
         fs::write(folder.join(format!("{}.listing", case.name)), listing)?;

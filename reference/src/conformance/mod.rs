@@ -5,16 +5,26 @@
 
 mod calculation;
 mod cars;
+mod damage;
+mod damage_order;
+mod each_car;
+mod each_table;
 mod ends;
+pub mod figures;
+mod halves;
+pub mod index;
 mod levels;
 mod lines;
 mod order;
 mod rack;
+mod repeats;
 mod roundings;
 mod sizes;
 mod sources;
+pub mod steps;
 mod tables;
 mod text;
+mod wide;
 
 /// A sheet, the listing it must give, and a name that says what it tries.
 pub struct Case {
@@ -43,6 +53,14 @@ pub fn cases() -> Vec<Case> {
         calculation::cases(),
         order::cases(),
         sources::cases(),
+        damage::cases(),
+        damage_order::cases(),
+        each_table::cases(),
+        each_car::cases(),
+        figures::cases(),
+        halves::cases(),
+        repeats::cases(),
+        wide::cases(),
     ]
     .into_iter()
     .flatten()

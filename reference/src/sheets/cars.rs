@@ -1,8 +1,8 @@
 //! Drawing cars: sound ones with many values at the bounds, and spoiled ones for each refusal.
 
-use super::draft::Table;
 use super::random::Random;
-use crate::car::Car;
+use super::tables::Table;
+use crate::car::{Car, FIELDS};
 use crate::level;
 
 /// Lowest temperature, highest water, highest impurities and the density at 15 °C above which
@@ -21,7 +21,7 @@ pub fn draw(random: &mut Random, tables: &[Table]) -> Car {
         grade: grade as u32 + 1,
         stick: random.between(1, 2),
         temperature: near_ends(random, coolest, 900),
-        density: near_ends(random, 9_000, densest),
+        density: draw_density(random, densest),
         water: near_ends(random, 0, water),
         impurities: near_ends(random, 0, impurities),
         ..Car::default()
@@ -45,6 +45,14 @@ fn draw_number(random: &mut Random) -> u32 {
         0 => random.pick(&[1, 2, 99_999_998, 99_999_999]),
         1 => random.between(1, 60),
         _ => random.between(50_000_000, 69_999_999),
+    }
+}
+
+/// A density, often a round one, for which masses come to a half, or 9,600, for which B does.
+fn draw_density(random: &mut Random, densest: u32) -> u32 {
+    match random.below(4) {
+        0 => random.pick(&[9_000, 9_200, 9_250, 9_400, 9_500, 9_600]).min(densest),
+        _ => near_ends(random, 9_000, densest),
     }
 }
 
@@ -106,13 +114,22 @@ pub fn spoil(random: &mut Random, car: &mut Car, tables: &[Table], earlier: &[Ca
     }
 }
 
+/// Makes a field so much too high that a program with narrow words would not see it.
+fn raise(random: &mut Random, car: &mut Car) {
+    let mut fields = <[u32; FIELDS]>::from(*car);
+    let place = 1 + random.below(FIELDS - 1);
+    fields[place] = fields[place].saturating_add(random.pick(&[256, 65_536])).min(99_999_999);
+    *car = Car::from(fields);
+}
+
 fn spoil_once(random: &mut Random, car: &mut Car, tables: &[Table], earlier: &[Car]) {
     const FAR: u32 = 99_999_999;
     let (coolest, water, impurities, densest) = GRADES[(car.grade as usize).clamp(1, 4) - 1];
     let table = tables.iter().find(|table| table.car_type == car.car_type);
     let highest = table.and_then(|table| table.rows.last()).map_or(1, |row| row.level);
-    match random.below(15) {
+    match random.below(16) {
         0 => car.number = 0,
+        15 => raise(random, car),
         1 | 2 => {
             if !earlier.is_empty() {
                 car.number = earlier[random.below(earlier.len())].number;

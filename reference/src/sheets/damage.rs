@@ -151,6 +151,28 @@ fn exchange_lines(random: &mut Random, sheet: &[u8], one: (usize, usize)) -> Vec
     [&sheet[..a], &sheet[c..d], &sheet[b..c], &sheet[a..b], &sheet[d..]].concat()
 }
 
+/// One field damaged, and nothing else.
+pub fn damage_one_field(random: &mut Random, sheet: Vec<u8>) -> Vec<u8> {
+    if sheet.is_empty() {
+        return sheet;
+    }
+    damage_field(random, sheet)
+}
+
+/// The C lines in another order, one of them at times doubled in place of another.
+pub fn shuffle_cars(random: &mut Random, sheet: &[u8]) -> Vec<u8> {
+    let mut lines: Vec<&[u8]> = sheet.split_inclusive(|&byte| byte == b'\n').collect();
+    let cars: Vec<usize> = (0..lines.len()).filter(|&place| lines[place][0] == b'C').collect();
+    for &place in &cars {
+        lines.swap(place, random.pick(&cars));
+    }
+    if !cars.is_empty() && random.one_in(2) {
+        let (from, to) = (random.pick(&cars), random.pick(&cars));
+        lines[to] = lines[from];
+    }
+    lines.concat()
+}
+
 /// A field that is no number as the rules have it, or one just within them.
 fn damage_field(random: &mut Random, mut sheet: Vec<u8>) -> Vec<u8> {
     const FIELDS: &[[u8; COLUMNS]] = &[
@@ -189,7 +211,26 @@ fn damage_field(random: &mut Random, mut sheet: Vec<u8>) -> Vec<u8> {
     let fields = (end - start).saturating_sub(2) / COLUMNS;
     if fields > 0 {
         let place = start + 1 + COLUMNS * random.below(fields);
-        sheet[place..place + COLUMNS].copy_from_slice(&random.pick(FIELDS));
+        let field = &mut sheet[place..place + COLUMNS];
+        match random.below(3) {
+            0 => field.copy_from_slice(&random.pick(FIELDS)),
+            1 => spoil_number(random, field),
+            _ => field.fill(b' '),
+        }
     }
     sheet
+}
+
+/// The field's own number with a zero, a sign or a ninth digit before it, or a byte after it.
+fn spoil_number(random: &mut Random, field: &mut [u8]) {
+    let digit = field.iter().position(|&byte| byte != b' ').unwrap_or(COLUMNS - 1);
+    match random.below(4) {
+        0 => field[digit.saturating_sub(1)] = b'0',
+        1 => field[digit.saturating_sub(1)] = random.pick(b"+-"),
+        2 => field[..=digit].fill(b'1'),
+        _ => {
+            field.rotate_left(1);
+            field[COLUMNS - 1] = random.pick(b" x.\r\x00");
+        }
+    }
 }

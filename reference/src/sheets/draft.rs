@@ -3,9 +3,9 @@
 use std::io::Write;
 
 use super::random::Random;
-use super::tables;
+use super::tables::{self, Table};
 use crate::car::{self, Car};
-use crate::table::{Row, ROWS, TABLES};
+use crate::table::{ROWS, TABLES};
 use crate::train::CARS;
 
 /// How many tables, rows of a table and cars a draft is to have.
@@ -30,14 +30,6 @@ impl Size {
         };
         Self { tables: random.between(1, TABLES as u32) as usize, rows: None, cars }
     }
-}
-
-/// A table and the number of rows that its first line announces.
-#[derive(Clone)]
-pub struct Table {
-    pub car_type: u32,
-    pub announced: u32,
-    pub rows: Vec<Row>,
 }
 
 #[derive(Clone)]

@@ -3,10 +3,13 @@
 mod cars;
 mod damage;
 mod draft;
-mod random;
+pub(crate) mod random;
 mod rules;
 mod tables;
 
+use std::sync::OnceLock;
+
+use crate::conformance;
 use crate::sheet::SHEET_BYTES;
 use draft::Draft;
 use random::Random;
@@ -15,13 +18,14 @@ use random::Random;
 ///
 /// Three in ten are whole, with accepted and refused cars; the others bend one rule for whole
 /// sheets at its bounds, on one side or the other, or have damaged bytes or lines, which does
-/// not turn away every one of them.
+/// not turn away every one of them. One in ten is a conformance sheet, as it is or damaged.
 pub fn sheet(seed: u64) -> Vec<u8> {
     let mut random = Random::new(seed);
     match random.below(200) {
         0 => return draw(&mut random, draft::FULL).write(),
         1 => return near_the_longest(&mut random),
         2 => return damage::noise(&mut random),
+        3..=22 => return of_the_kit(&mut random),
         _ => {}
     }
     let size = draft::Size::draw(&mut random);
@@ -37,6 +41,22 @@ pub fn sheet(seed: u64) -> Vec<u8> {
             damage::damage(&mut random, draft.write())
         }
         _ => damage::damage(&mut random, draft.write()),
+    }
+}
+
+/// A small conformance sheet, as it is, with its cars in another order, or damaged.
+fn of_the_kit(random: &mut Random) -> Vec<u8> {
+    static SHEETS: OnceLock<Vec<Vec<u8>>> = OnceLock::new();
+    let sheets = SHEETS.get_or_init(|| {
+        let cases = conformance::cases().into_iter().map(|case| case.sheet);
+        cases.filter(|sheet| sheet.len() < 10_000).collect()
+    });
+    let sheet = sheets[random.below(sheets.len())].clone();
+    match random.below(4) {
+        0 => sheet,
+        1 => damage::damage_one_field(random, sheet),
+        2 => damage::shuffle_cars(random, &sheet),
+        _ => damage::damage(random, sheet),
     }
 }
 

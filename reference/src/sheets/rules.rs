@@ -1,9 +1,9 @@
 //! Bending one rule for whole sheets at its bounds, just inside or just outside.
 
 use super::cars;
-use super::draft::{Draft, Table};
+use super::draft::Draft;
 use super::random::Random;
-use super::tables;
+use super::tables::{self, Table};
 use crate::car::Car;
 use crate::table::{Row, ROWS};
 use crate::train::CARS;
@@ -58,7 +58,8 @@ fn add_table(random: &mut Random, draft: &mut Draft) {
 
 /// A later row that does not exceed the row before in one number or both, or barely does.
 fn bend_order(random: &mut Random, table: &mut Table) {
-    let place = 1 + random.below(table.rows.len() - 1);
+    let last = table.rows.len() - 1;
+    let place = if random.one_in(3) { last } else { 1 + random.below(last) };
     let before = table.rows[place - 1];
     let bent = &mut table.rows[place];
     let steps = [before.level.saturating_sub(1), before.level, before.level + 1];

@@ -1,12 +1,20 @@
-//! Drawing sound capacity tables: like a car's, flat, steep, uneven, and up to the limits.
+//! A capacity table before it is written, and drawing sound ones: like a car's, flat, steep,
+//! uneven, and up to the limits.
 
-use super::draft::Table;
 use super::random::Random;
 use crate::level;
 use crate::table::{Row, ROWS};
 
 /// The largest capacity, in dm³.
 const LARGEST: u32 = 200_000;
+
+/// A table and the number of rows that its first line announces.
+#[derive(Clone)]
+pub struct Table {
+    pub car_type: u32,
+    pub announced: u32,
+    pub rows: Vec<Row>,
+}
 
 /// Mostly few rows, now and then many.
 pub fn draw_row_count(random: &mut Random) -> usize {

@@ -1,0 +1,830 @@
+/// Hand-made edits.
+pub const EDITS: &[Edit] = &[
+    Edit {
+        module: "line",
+        old: "*number = «field::read(field)?»;",
+        new: &[
+            ("each field: blank is 0", "crate::wrong::field(0, field)?"),
+            ("each field: zeros before are taken", "crate::wrong::field(1, field)?"),
+            ("each field: a sign is taken", "crate::wrong::field(18, field)?"),
+            ("each field: nine digits are taken", "crate::wrong::field(4, field)?"),
+            ("each field: spaces after are taken", "crate::wrong::field(5, field)?"),
+            ("each line: a plus sign is taken", "crate::wrong::field(2, field)?"),
+            ("each line: a minus sign is left out", "crate::wrong::field(3, field)?"),
+            ("each line: spaces inside are left out", "crate::wrong::field(6, field)?"),
+            ("each line: what follows the digits is left out", "crate::wrong::field(7, field)?"),
+            ("each line: a tab is a space", "crate::wrong::field(8, field)?"),
+            ("each line: a zero byte is a space", "crate::wrong::field(9, field)?"),
+            ("each line: a carriage return is a space", "crate::wrong::field(10, field)?"),
+            ("each line: a decimal point or comma is left out", "crate::wrong::field(11, field)?"),
+            ("each line: the letter O is 0", "crate::wrong::field(12, field)?"),
+            ("each line: : and / are digits", "crate::wrong::field(13, field)?"),
+            ("each line: bytes from 128 are spaces", "crate::wrong::field(14, field)?"),
+            ("each line: an exponent is taken", "crate::wrong::field(15, field)?"),
+            ("each line: hexadecimal is taken", "crate::wrong::field(16, field)?"),
+            ("each line: nine zeros are 0", "crate::wrong::field(17, field)?"),
+        ],
+    },
+    Edit {
+        module: "line",
+        old: "None => «Refusal::LineMissing»",
+        new: &[
+            (
+                "5 before 3",
+                "if rest.len() >= length { Refusal::LineLength } else { Refusal::LineMissing }",
+            ),
+            (
+                "6 before 3",
+                "if crate::wrong::bad_field(rest, length) { Refusal::Field } \
+                 else { Refusal::LineMissing }",
+            ),
+            ("5 for a line that is cut", "Refusal::LineLength"),
+            ("6 for a line that is cut", "Refusal::Field"),
+        ],
+    },
+    Edit {
+        module: "line",
+        old: "=> «Refusal::LineLength»",
+        new: &[(
+            "6 before 5",
+            "if crate::wrong::bad_field(rest, length) { Refusal::Field } \
+             else { Refusal::LineLength }",
+        )],
+    },
+    Edit {
+        module: "sheet",
+        old: "«line::read(self.rest).map_err(|refusal| self.reject(refusal))?»",
+        new: &[
+            (
+                "a carriage return before the line feed is left out",
+                "match crate::wrong::without_return(self.rest, line::length(N)) { \
+                 Some(line) => { self.rest = &self.rest[1..]; \
+                 line::read(&line).map_err(|refusal| self.reject(refusal))? } \
+                 None => line::read(self.rest).map_err(|refusal| self.reject(refusal))? }",
+            ),
+            (
+                "a long line is cut",
+                "match crate::wrong::cut(self.rest, line::length(N)) { \
+                 Some((line, more)) => { self.rest = &self.rest[more..]; \
+                 line::read(&line).map_err(|refusal| self.reject(refusal))? } \
+                 None => line::read(self.rest).map_err(|refusal| self.reject(refusal))? }",
+            ),
+            (
+                "fields may be of any width",
+                "match crate::wrong::words(self.rest, N) { \
+                 Some(line) => { let end = self.rest.iter().position(|&byte| byte == b'\\n'); \
+                 let end = end.unwrap_or(0) + 1; \
+                 let fields = line::read(&line).map_err(|refusal| self.reject(refusal))?; \
+                 self.rest = &self.rest[end..]; return Ok(fields); } \
+                 None => line::read(self.rest).map_err(|refusal| self.reject(refusal))? }",
+            ),
+            (
+                "the last line feed may be missing",
+                "if self.rest.len() + 1 == line::length(N) && !self.rest.contains(&b'\\n') { \
+                 let mut line = self.rest.to_vec(); line.push(b'\\n'); \
+                 let fields = line::read(&line).map_err(|refusal| self.reject(refusal))?; \
+                 self.rest = &[]; return Ok(fields); } \
+                 line::read(self.rest).map_err(|refusal| self.reject(refusal))?",
+            ),
+        ],
+    },
+    Edit {
+        module: "sheet",
+        old: "let [car_type, rows] = «lines.fields()?»;",
+        new: &[
+            (
+                "fifth table before 3",
+                "match lines.fields() { Err(other) if self.tables.count() == 4 => \
+                 return Err(Rejection { refusal: Refusal::TableHead, ..other }), other => other? }",
+            ),
+            (
+                "fifth table before 5",
+                "match lines.fields() { Err(other) if self.tables.count() == 4 \
+                 && other.refusal.number() >= 5 => \
+                 return Err(Rejection { refusal: Refusal::TableHead, ..other }), other => other? }",
+            ),
+            (
+                "fifth table before 6",
+                "match lines.fields() { Err(other) if self.tables.count() == 4 \
+                 && other.refusal.number() >= 6 => \
+                 return Err(Rejection { refusal: Refusal::TableHead, ..other }), other => other? }",
+            ),
+            (
+                "7 by the type before 6",
+                "match lines.fields() { Err(other) if other.refusal.number() == 6 \
+                 && crate::wrong::number_at(lines.rest, 0).is_some_and(|n| \
+                 !(1..=9_999).contains(&n)) => \
+                 return Err(Rejection { refusal: Refusal::TableHead, ..other }), other => other? }",
+            ),
+            (
+                "7 by the rows before 6",
+                "match lines.fields() { Err(other) if other.refusal.number() == 6 \
+                 && crate::wrong::number_at(lines.rest, 1).is_some_and(|n| \
+                 !(2..=400).contains(&n)) => \
+                 return Err(Rejection { refusal: Refusal::TableHead, ..other }), other => other? }",
+            ),
+            (
+                "type cut to 16 bits",
+                "{ let [car_type, rows]: [u32; 2] = lines.fields()?; [car_type & 0xffff, rows] }",
+            ),
+            (
+                "rows cut to 16 bits",
+                "{ let [car_type, rows]: [u32; 2] = lines.fields()?; [car_type, rows & 0xffff] }",
+            ),
+        ],
+    },
+    Edit {
+        module: "sheet",
+        old: "«self.tables.begin(car_type, rows).map_err(|refusal| lines.reject(refusal))?;»",
+        new: &[(
+            "7 after the table's rows",
+            "if let Err(refusal) = self.tables.begin(car_type, rows) { \
+             let late = lines.reject(refusal); \
+             for _ in 0..rows { lines.letter(b\"R\")?; let _: [u32; 2] = lines.fields()?; } \
+             return Err(late); }",
+        )],
+    },
+    Edit {
+        module: "sheet",
+        old: "«self.tables.add(row).map_err(|refusal| lines.reject(refusal))?;»",
+        new: &[(
+            "8 after the table's rows",
+            "if let Err(refusal) = self.tables.add(row) { \
+             late.get_or_insert(lines.reject(refusal)); }",
+        )],
+    },
+    Edit {
+        module: "sheet",
+        old: "let [level, capacity] = «lines.fields()?»;",
+        new: &[
+            (
+                "8 by the level before 6",
+                "match lines.fields() { Err(other) if other.refusal.number() == 6 \
+                 && crate::wrong::bad_level(lines.rest) => \
+                 return Err(Rejection { refusal: Refusal::TableRow, ..other }), other => other? }",
+            ),
+            (
+                "8 by the capacity before 6",
+                "match lines.fields() { Err(other) if other.refusal.number() == 6 \
+                 && crate::wrong::bad_capacity(lines.rest) => \
+                 return Err(Rejection { refusal: Refusal::TableRow, ..other }), other => other? }",
+            ),
+            (
+                "level cut to 16 bits",
+                "{ let [level, capacity]: [u32; 2] = lines.fields()?; [level & 0xffff, capacity] }",
+            ),
+            (
+                "capacity cut to 16 bits",
+                "{ let [level, capacity]: [u32; 2] = lines.fields()?; [level, capacity & 0xffff] }",
+            ),
+            (
+                "capacity cut to 18 bits",
+                "{ let [level, capacity]: [u32; 2] = lines.fields()?; [level, capacity & 0x3ffff] }",
+            ),
+        ],
+    },
+    Edit {
+        module: "sheet",
+        old: "let fields: [u32; car::FIELDS] = «lines.fields()?»;",
+        new: &[
+            (
+                "sixty-first car before 3",
+                "match lines.fields() { Err(other) if self.count == 60 => \
+                 return Err(Rejection { refusal: Refusal::Count, ..other }), other => other? }",
+            ),
+            (
+                "sixty-first car before 5",
+                "match lines.fields() { Err(other) if self.count == 60 \
+                 && other.refusal.number() >= 5 => \
+                 return Err(Rejection { refusal: Refusal::Count, ..other }), other => other? }",
+            ),
+            (
+                "sixty-first car before 6",
+                "match lines.fields() { Err(other) if self.count == 60 \
+                 && other.refusal.number() >= 6 => \
+                 return Err(Rejection { refusal: Refusal::Count, ..other }), other => other? }",
+            ),
+        ],
+    },
+    Edit {
+        module: "sheet",
+        old: "let [cars] = «lines.fields()?»;",
+        new: &[
+            (
+                "bytes after the end before 5",
+                "match lines.fields() { Err(other) if other.refusal.number() >= 5 \
+                 && crate::wrong::more_lines(lines.rest) => return Err(Rejection { \
+                 refusal: Refusal::Count, line: other.line + 1 }), other => other? }",
+            ),
+            (
+                "bytes after the end before 6",
+                "match lines.fields() { Err(other) if other.refusal.number() >= 6 \
+                 && crate::wrong::more_lines(lines.rest) => return Err(Rejection { \
+                 refusal: Refusal::Count, line: other.line + 1 }), other => other? }",
+            ),
+            ("number cut to 8 bits", "{ let [cars]: [u32; 1] = lines.fields()?; [cars & 0xff] }"),
+            ("number cut to 16 bits", "{ let [cars]: [u32; 1] = lines.fields()?; [cars & 0xffff] }"),
+            ("number not looked at", "{ let _: [u32; 1] = lines.fields()?; [self.count as u32] }"),
+        ],
+    },
+    Edit {
+        module: "sheet",
+        old: "if «cars as usize != self.count» {",
+        new: &[
+            ("bytes after the end before the count", "cars as usize != self.count && lines.rest.is_empty()"),
+            ("count may be too low", "cars as usize > self.count"),
+            ("count may be too high", "(cars as usize) < self.count"),
+        ],
+    },
+    Edit {
+        module: "sheet",
+        old: "lines.number += 1;\n            «return Err(lines.reject(Refusal::Count));»",
+        new: &[
+            ("3 and 4 after the end", "return lines.letter(b\"\").map(|_| ()).map_err(|other| \
+              Rejection { line: other.line - 1, ..other });"),
+            ("3 after the end", "if !lines.rest.contains(&b'\\n') { \
+              return Err(lines.reject(Refusal::LineMissing)); } \
+              return Err(lines.reject(Refusal::Count));"),
+            ("4 after the end", "return Err(lines.reject(Refusal::Letter));"),
+            ("one line feed after the end is taken", "if lines.rest == b\"\\n\" { return Ok(()); } \
+              return Err(lines.reject(Refusal::Count));"),
+            ("spaces after the end are taken", "if lines.rest.iter().all(u8::is_ascii_whitespace) \
+              { return Ok(()); } return Err(lines.reject(Refusal::Count));"),
+            ("zero bytes after the end are taken", "if lines.rest.iter().all(|&byte| byte == 0) \
+              { return Ok(()); } return Err(lines.reject(Refusal::Count));"),
+            ("a line after the end is taken", "if lines.rest.contains(&b'\\n') { return Ok(()); } \
+              return Err(lines.reject(Refusal::Count));"),
+            ("what is no whole line after the end is taken", "if !lines.rest.contains(&b'\\n') \
+              { return Ok(()); } return Err(lines.reject(Refusal::Count));"),
+        ],
+    },
+    Edit {
+        module: "sheet",
+        old: "_ if «self.rest.contains(&b'\\n')»",
+        new: &[
+            ("4 before 3", "!self.rest.is_empty()"),
+            ("4 always", "true"),
+            ("3 always", "false"),
+        ],
+    },
+    Edit {
+        module: "sheet",
+        old: "=> «Err(self.reject(Refusal::Letter))»",
+        new: &[
+            ("5 before 4", "Err(self.reject(crate::wrong::fault_first(self.rest, false)))"),
+            ("6 before 4", "Err(self.reject(crate::wrong::fault_first(self.rest, true)))"),
+            ("small letters are taken", "if self.rest.first().is_some_and(|letter| \
+              may_come.contains(&letter.to_ascii_uppercase())) \
+              { Ok(self.rest[0].to_ascii_uppercase()) } \
+              else { Err(self.reject(Refusal::Letter)) }"),
+            ("5 for an empty line", "Err(self.reject(if self.rest[0] == b'\\n' \
+              { Refusal::LineLength } else { Refusal::Letter }))"),
+            ("8 for a row too few or too many", "Err(self.reject(if may_come == b\"R\" \
+              || self.rest[0] == b'R' && may_come == b\"TCE\" { Refusal::TableRow } \
+              else { Refusal::Letter }))"),
+            ("empty lines are skipped", "{ let mut rest = self.rest; \
+              while rest.first() == Some(&b'\\n') { rest = &rest[1..]; } \
+              self.rest = rest; match rest.first() { \
+              Some(letter) if may_come.contains(letter) => Ok(*letter), \
+              _ => Err(self.reject(Refusal::Letter)) } }"),
+            ("spaces before the letter are skipped", "{ let mut rest = self.rest; \
+              while rest.first() == Some(&b' ') { rest = &rest[1..]; } \
+              self.rest = rest; match rest.first() { \
+              Some(letter) if may_come.contains(letter) => Ok(*letter), \
+              _ => Err(self.reject(Refusal::Letter)) } }"),
+            ("a byte order mark is skipped", "{ let mut rest = self.rest; \
+              if rest.starts_with(b\"\\xef\\xbb\\xbf\") { rest = &rest[3..]; } \
+              self.rest = rest; match rest.first() { \
+              Some(letter) if may_come.contains(letter) => Ok(*letter), \
+              _ => Err(self.reject(Refusal::Letter)) } }"),
+        ],
+    },
+    Edit {
+        module: "sheet",
+        old: "«return Err(Rejection { line: 0, refusal: Refusal::SheetLength });»",
+        new: &[
+            ("2 after the sheet's other refusals", "return match Self::read(&bytes[..39_771]) \
+              { Err(other) => Err(other), \
+              Ok(_) => Err(Rejection { line: 0, refusal: Refusal::SheetLength }) };"),
+            ("2 after 3 and 4 of the first line", "let mut lines = Lines { rest: bytes, number: 0 }; \
+              lines.letter(b\"T\")?; \
+              return Err(Rejection { line: 0, refusal: Refusal::SheetLength });"),
+            ("2 with line 1", "return Err(Rejection { line: 1, refusal: Refusal::SheetLength });"),
+        ],
+    },
+    Edit {
+        module: "sheet",
+        old: "Car::from(«fields»)",
+        new: &[
+            ("field 1 is 0", "crate::wrong::zero(fields, 0)"),
+            ("field 2 is 0", "crate::wrong::zero(fields, 1)"),
+            ("field 3 is 0", "crate::wrong::zero(fields, 2)"),
+            ("field 4 is 0", "crate::wrong::zero(fields, 3)"),
+            ("field 5 is 0", "crate::wrong::zero(fields, 4)"),
+            ("field 6 is 0", "crate::wrong::zero(fields, 5)"),
+            ("field 7 is 0", "crate::wrong::zero(fields, 6)"),
+            ("field 8 is 0", "crate::wrong::zero(fields, 7)"),
+            ("field 9 is 0", "crate::wrong::zero(fields, 8)"),
+            ("field 10 is 0", "crate::wrong::zero(fields, 9)"),
+            ("field 11 is 0", "crate::wrong::zero(fields, 10)"),
+            ("field 12 is 0", "crate::wrong::zero(fields, 11)"),
+            ("field 13 is 0", "crate::wrong::zero(fields, 12)"),
+            ("field 14 is 0", "crate::wrong::zero(fields, 13)"),
+            ("fields 1 and 2 exchanged", "crate::wrong::swapped(fields, 0)"),
+            ("fields 2 and 3 exchanged", "crate::wrong::swapped(fields, 1)"),
+            ("fields 3 and 4 exchanged", "crate::wrong::swapped(fields, 2)"),
+            ("fields 4 and 5 exchanged", "crate::wrong::swapped(fields, 3)"),
+            ("fields 5 and 6 exchanged", "crate::wrong::swapped(fields, 4)"),
+            ("fields 6 and 7 exchanged", "crate::wrong::swapped(fields, 5)"),
+            ("fields 7 and 8 exchanged", "crate::wrong::swapped(fields, 6)"),
+            ("fields 8 and 9 exchanged", "crate::wrong::swapped(fields, 7)"),
+            ("fields 9 and 10 exchanged", "crate::wrong::swapped(fields, 8)"),
+            ("fields 10 and 11 exchanged", "crate::wrong::swapped(fields, 9)"),
+            ("fields 11 and 12 exchanged", "crate::wrong::swapped(fields, 10)"),
+            ("fields 12 and 13 exchanged", "crate::wrong::swapped(fields, 11)"),
+            ("fields 13 and 14 exchanged", "crate::wrong::swapped(fields, 12)"),
+            ("field 1 cut to 16 bits", "crate::wrong::cut_bits(fields, 0, 16)"),
+            ("field 2 cut to 16 bits", "crate::wrong::cut_bits(fields, 1, 16)"),
+            ("field 3 cut to 16 bits", "crate::wrong::cut_bits(fields, 2, 16)"),
+            ("field 4 cut to 16 bits", "crate::wrong::cut_bits(fields, 3, 16)"),
+            ("field 5 cut to 16 bits", "crate::wrong::cut_bits(fields, 4, 16)"),
+            ("field 6 cut to 16 bits", "crate::wrong::cut_bits(fields, 5, 16)"),
+            ("field 7 cut to 16 bits", "crate::wrong::cut_bits(fields, 6, 16)"),
+            ("field 8 cut to 16 bits", "crate::wrong::cut_bits(fields, 7, 16)"),
+            ("field 9 cut to 16 bits", "crate::wrong::cut_bits(fields, 8, 16)"),
+            ("field 10 cut to 16 bits", "crate::wrong::cut_bits(fields, 9, 16)"),
+            ("field 11 cut to 16 bits", "crate::wrong::cut_bits(fields, 10, 16)"),
+            ("field 12 cut to 16 bits", "crate::wrong::cut_bits(fields, 11, 16)"),
+            ("field 13 cut to 16 bits", "crate::wrong::cut_bits(fields, 12, 16)"),
+            ("field 14 cut to 16 bits", "crate::wrong::cut_bits(fields, 13, 16)"),
+            ("field 2 cut to 8 bits", "crate::wrong::cut_bits(fields, 1, 8)"),
+            ("field 3 cut to 8 bits", "crate::wrong::cut_bits(fields, 2, 8)"),
+            ("field 4 cut to 8 bits", "crate::wrong::cut_bits(fields, 3, 8)"),
+            ("field 5 cut to 8 bits", "crate::wrong::cut_bits(fields, 4, 8)"),
+            ("field 13 cut to 8 bits", "crate::wrong::cut_bits(fields, 12, 8)"),
+            ("field 14 cut to 8 bits", "crate::wrong::cut_bits(fields, 13, 8)"),
+            ("field 1 in single floating point", "crate::wrong::single(fields, 0)"),
+            ("field 11 in whole degrees", "crate::wrong::tens(fields, 10)"),
+            ("field 12 in whole kg/m³", "crate::wrong::tens(fields, 11)"),
+            ("field 13 in tenths of a per cent", "crate::wrong::tens(fields, 12)"),
+            ("field 14 in tenths of a per cent", "crate::wrong::tens(fields, 13)"),
+        ],
+    },
+    Edit {
+        module: "listing",
+        old: "&mut self.buffer[self.length..], letter, «numbers»);",
+        new: &[
+            ("field 1 is 0", "crate::wrong::zero(numbers, 0)"),
+            ("field 2 is 0", "crate::wrong::zero(numbers, 1)"),
+            ("field 3 is 0", "crate::wrong::zero(numbers, 2)"),
+            ("field 4 is 0", "crate::wrong::zero(numbers, 3)"),
+            ("field 5 is 0", "crate::wrong::zero(numbers, 4)"),
+            ("field 6 is 0", "crate::wrong::zero(numbers, 5)"),
+            ("fields 1 and 2 exchanged", "crate::wrong::swapped(numbers, 0)"),
+            ("fields 2 and 3 exchanged", "crate::wrong::swapped(numbers, 1)"),
+            ("fields 3 and 4 exchanged", "crate::wrong::swapped(numbers, 2)"),
+            ("fields 4 and 5 exchanged", "crate::wrong::swapped(numbers, 3)"),
+            ("fields 5 and 6 exchanged", "crate::wrong::swapped(numbers, 4)"),
+            ("field 1 cut to 16 bits", "crate::wrong::cut_bits(numbers, 0, 16)"),
+            ("field 2 cut to 16 bits", "crate::wrong::cut_bits(numbers, 1, 16)"),
+            ("field 3 cut to 16 bits", "crate::wrong::cut_bits(numbers, 2, 16)"),
+            ("field 4 cut to 16 bits", "crate::wrong::cut_bits(numbers, 3, 16)"),
+            ("field 5 cut to 16 bits", "crate::wrong::cut_bits(numbers, 4, 16)"),
+            ("field 6 cut to 16 bits", "crate::wrong::cut_bits(numbers, 5, 16)"),
+            ("field 1 in single floating point", "crate::wrong::single(numbers, 0)"),
+            ("field 2 in single floating point", "crate::wrong::single(numbers, 1)"),
+            ("field 3 in single floating point", "crate::wrong::single(numbers, 2)"),
+            ("field 4 in single floating point", "crate::wrong::single(numbers, 3)"),
+            ("field 5 in single floating point", "crate::wrong::single(numbers, 4)"),
+            ("field 6 in single floating point", "crate::wrong::single(numbers, 5)"),
+        ],
+    },
+    Edit {
+        module: "listing",
+        old: "«self.write(b'S', [train.accepted, train.gross as u32, train.net as u32]);»",
+        new: &[
+            ("net total from the gross total", "self.write(b'S', [train.accepted, \
+              train.gross as u32, crate::wrong::net_of_total(train.gross, sheet.cars())]);"),
+            ("S counts all cars", "self.write(b'S', [sheet.cars().len() as u32, \
+              train.gross as u32, train.net as u32]);"),
+            ("totals in single floating point", "self.write(b'S', [train.accepted, \
+              train.gross as f32 as u32, train.net as f32 as u32]);"),
+        ],
+    },
+    Edit {
+        module: "table",
+        old: "let taken = «self.find(car_type).is_some()»;",
+        new: &[
+            ("type compared with the first only", "self.tables > 0 \
+              && self.heads[0].car_type == car_type"),
+            ("type compared with the last only", "self.tables > 0 \
+              && self.heads[self.tables - 1].car_type == car_type"),
+            ("type not compared with the first", "self.tables > 1 \
+              && self.heads[1..self.tables].iter().any(|head| head.car_type == car_type)"),
+            ("type not compared with the second", "self.tables > 0 \
+              && self.heads[..self.tables].iter().enumerate()\
+              .any(|(place, head)| place != 1 && head.car_type == car_type)"),
+            ("type not compared with the third", "self.tables > 0 \
+              && self.heads[..self.tables].iter().enumerate()\
+              .any(|(place, head)| place != 2 && head.car_type == car_type)"),
+        ],
+    },
+    Edit {
+        module: "table",
+        old: "None => «row == Row { level: 0, capacity: 0 }»",
+        new: &[
+            ("only the first level must be 0", "row.level == 0"),
+            ("only the first capacity must be 0", "row.capacity == 0"),
+        ],
+    },
+    Edit {
+        module: "table",
+        old: "«row.level > before.level && row.capacity > before.capacity»",
+        new: &[
+            ("compared with the table's first row", "row.level > self.rows[*start].level \
+              && row.capacity > self.rows[*start].capacity"),
+            ("compared with the second row before", "row.level > self.rows[*end \
+              - 2.min(*end - *start)].level && row.capacity > before.capacity"),
+            ("capacity compared with the level before", "row.level > before.level \
+              && row.capacity > before.level"),
+            ("level compared with the capacity before", "row.level > before.capacity \
+              && row.capacity > before.capacity"),
+            ("level tested twice", "row.level > before.level && row.level > before.level"),
+            ("compared by their product", "u64::from(row.level) * u64::from(row.capacity) \
+              > u64::from(before.level) * u64::from(before.capacity)"),
+        ],
+    },
+    Edit {
+        module: "table",
+        old: ".find(|head| «head.car_type == car_type»)",
+        new: &[
+            ("types compared in 8 bits", "head.car_type as u8 == car_type as u8"),
+            ("types compared in 16 bits", "head.car_type as u16 == car_type as u16"),
+            ("types compared by three digits", "head.car_type % 1_000 == car_type % 1_000"),
+            ("types compared by four digits", "head.car_type % 10_000 == car_type % 10_000"),
+        ],
+    },
+    Edit {
+        module: "table",
+        old: "«100 * u64::from(lower.capacity) + nearest(100 * rise, u64::from(upper.level - lower.level))»",
+        new: &[
+            ("capacity in single floating point", "(100.0 * (lower.capacity as f32 \
+              + (upper.capacity - lower.capacity) as f32 * (level - lower.level) as f32 \
+              / (upper.level - lower.level) as f32)).round() as u64"),
+            ("capacity in double floating point, step first", "(100.0 * (f64::from(lower.capacity) \
+              + f64::from(upper.capacity - lower.capacity) / f64::from(upper.level - lower.level) \
+              * f64::from(level - lower.level))).round() as u64"),
+            ("capacity in double floating point", "(100.0 * (f64::from(lower.capacity) \
+              + f64::from(upper.capacity - lower.capacity) * f64::from(level - lower.level) \
+              / f64::from(upper.level - lower.level))).round() as u64"),
+            ("capacity in whole dm³", "100 * (u64::from(lower.capacity) \
+              + nearest(rise, u64::from(upper.level - lower.level)))"),
+            ("the lower row's capacity", "100 * u64::from(lower.capacity)"),
+            ("the upper row's capacity", "100 * u64::from(upper.capacity)"),
+            ("the nearer row's capacity", "100 * u64::from(if level - lower.level \
+              < upper.level - level { lower.capacity } else { upper.capacity })"),
+            ("from the upper row down", "100 * u64::from(upper.capacity) - nearest(100 \
+              * u64::from(upper.capacity - lower.capacity) * u64::from(upper.level - level), \
+              u64::from(upper.level - lower.level))"),
+            ("capacity step rounded to 0.01 dm³ for a mm", "100 * u64::from(lower.capacity) \
+              + nearest(100 * u64::from(upper.capacity - lower.capacity), \
+              u64::from(upper.level - lower.level)) * u64::from(level - lower.level)"),
+        ],
+    },
+    Edit {
+        module: "level",
+        old: "«first.abs_diff(second) <= AGREEMENT»",
+        new: &[
+            ("only a fall is apart", "first <= second + AGREEMENT"),
+            ("only a rise is apart", "second <= first + AGREEMENT"),
+            ("the last two agree", "third.abs_diff(fourth) <= AGREEMENT"),
+            ("first and third agree", "first.abs_diff(third) <= AGREEMENT"),
+            ("all readings agree", "readings.iter().max().unwrap() - readings.iter().min().unwrap() \
+              <= AGREEMENT"),
+            ("compared in 16 bits", "(first as u16).abs_diff(second as u16) <= 1"),
+        ],
+    },
+    Edit {
+        module: "level",
+        old: "2 if «(third, fourth) != (0, 0)»",
+        new: &[
+            ("the third alone must be 0", "third != 0"),
+            ("the fourth alone must be 0", "fourth != 0"),
+            ("their sum in 8 bits must be 0", "(third + fourth) as u8 != 0"),
+        ],
+    },
+    Edit {
+        module: "level",
+        old: "4 => «mean_of(&three_closest(readings))»",
+        new: &[
+            ("mean of all four", "mean_of(&readings)"),
+            ("mean of the first two", "mean_of(&[first, second])"),
+            ("mean of the last two", "mean_of(&[third, fourth])"),
+            ("mean of the first three", "mean_of(&[first, second, third])"),
+            ("mean of the last three", "mean_of(&[second, third, fourth])"),
+            ("mean of the middle two", "{ let mut all = readings; all.sort(); mean_of(&all[1..3]) }"),
+            ("the second lowest", "{ let mut all = readings; all.sort(); all[1] }"),
+            ("the second highest", "{ let mut all = readings; all.sort(); all[2] }"),
+            ("the middle of the three closest", "{ let three = three_closest(readings); three[1] }"),
+            ("mean of the closest two", "{ let mut all = readings; all.sort(); \
+              let gaps = [all[1] - all[0], all[2] - all[1], all[3] - all[2]]; \
+              let least = gaps.iter().min().unwrap(); \
+              let at = gaps.iter().position(|gap| gap == least).unwrap(); \
+              mean_of(&all[at..at + 2]) }"),
+            ("mean of lowest and highest of the three", "{ let three = three_closest(readings); \
+              mean_of(&[three[0], three[2]]) }"),
+            ("in single floating point", "{ let three = three_closest(readings); \
+              ((three[0] as f32 + three[1] as f32 + three[2] as f32) / 3.0).round() as u32 }"),
+            ("rounded twice", "{ let three = three_closest(readings); \
+              nearest(nearest(u64::from(three[0] + three[1]), 2) * 2 + u64::from(three[2]), 3) as u32 }"),
+            ("the three nearest to the mean of all four", "{ let mut all = readings; all.sort(); \
+              let sum: u32 = all.iter().sum(); \
+              if (4 * all[3]).abs_diff(sum) >= (4 * all[0]).abs_diff(sum) { mean_of(&all[..3]) } \
+              else { mean_of(&all[1..]) } }"),
+        ],
+    },
+    Edit {
+        module: "level",
+        old: "2 | 4 if agree => «mean_of(&[first, second])»",
+        new: &[
+            ("the first reading", "first"),
+            ("the second reading", "second"),
+            ("mean of all given", "if given == 4 { mean_of(&readings) } \
+              else { mean_of(&[first, second]) }"),
+            ("three closest of four", "if given == 4 { mean_of(&three_closest(readings)) } \
+              else { mean_of(&[first, second]) }"),
+            ("in single floating point", "((first as f32 + second as f32) / 2.0).round() as u32"),
+        ],
+    },
+    Edit {
+        module: "level",
+        old: "if «c - a <= d - b» {",
+        new: &[
+            ("by the inner gap", "b - a <= d - c"),
+            ("always the lower", "true"),
+            ("always the upper", "false"),
+            ("by outer readings in 16 bits", "(c - a) as u16 <= (d - b) as u16"),
+        ],
+    },
+    Edit {
+        module: "level",
+        old: "readings.sort_unstable();\n    let [a, b, c, d] = «readings»;",
+        new: &[
+            ("sorted falling", "{ let mut all = readings; all.reverse(); all }"),
+            ("two neighbours out of order", "{ let mut all = readings; all.swap(1, 2); all }"),
+        ],
+    },
+    Edit {
+        module: "car",
+        old: "ensure(«level <= table.last_level()»",
+        new: &[
+            ("16 by the first table's end", "level <= crate::wrong::end_of(tables, 0, table)"),
+            ("16 by the second table's end", "level <= crate::wrong::end_of(tables, 1, table)"),
+            ("16 by the third table's end", "level <= crate::wrong::end_of(tables, 2, table)"),
+            ("16 by the fourth table's end", "level <= crate::wrong::end_of(tables, 3, table)"),
+            ("16 by the last table's end", "level <= crate::wrong::end_of_last(tables)"),
+            ("16 by the longest table's end", "level <= crate::wrong::longest(tables)"),
+            ("16 by the shortest table's end", "level <= crate::wrong::shortest(tables)"),
+            ("16 by the first reading", "self.readings[0] <= table.last_level()"),
+            ("16 by the second reading", "self.readings[1] <= table.last_level()"),
+            ("16 by the highest reading", "self.readings[..self.given as usize].iter()\
+              .all(|&reading| reading <= table.last_level())"),
+        ],
+    },
+    Edit {
+        module: "car",
+        old: "ensure(«self.water_level < level»",
+        new: &[
+            ("17 by the first reading", "self.water_level < self.readings[0]"),
+            ("17 by the second reading", "self.water_level < self.readings[1]"),
+            ("17 by the lower reading", "self.water_level < self.readings[0].min(self.readings[1])"),
+            ("17 by the table's end", "self.water_level < table.last_level()"),
+            ("17 in 16 bits", "(self.water_level as u16) < level as u16"),
+            ("17 by the capacities", "self.water_level <= table.last_level() \
+              && table.capacity(self.water_level) < table.capacity(level)"),
+        ],
+    },
+    Edit {
+        module: "car",
+        old: "GRADES.get(«place as usize»)",
+        new: &[
+            ("grade 1's limits", "if place < 4 { 0 } else { 4 }"),
+            ("grade 2's limits", "if place < 4 { 1 } else { 4 }"),
+            ("grade 3's limits", "if place < 4 { 2 } else { 4 }"),
+            ("grade 4's limits", "if place < 4 { 3 } else { 4 }"),
+            ("grades above 4 taken", "place.min(3) as usize"),
+            ("grades in 8 bits", "place as u8 as usize"),
+        ],
+    },
+    Edit {
+        module: "car",
+        old: "«grade.temperatures.contains(&self.temperature)»",
+        new: &[
+            ("18 from 200 for all grades", "(200..=900).contains(&self.temperature)"),
+            ("18 from 400 for all grades", "(400..=900).contains(&self.temperature)"),
+            ("18 without its highest", "self.temperature >= *grade.temperatures.start()"),
+            ("18 without its lowest", "(200..=900).contains(&self.temperature) \
+              || self.temperature < 200 && self.temperature >= 150"),
+        ],
+    },
+    Edit {
+        module: "car",
+        old: "«self.water <= grade.water && self.impurities <= grade.impurities»",
+        new: &[
+            ("20 by the sum", "self.water.saturating_add(self.impurities) \
+              <= grade.water + grade.impurities"),
+            ("20 by the wrong limits", "self.water <= grade.impurities \
+              && self.impurities <= grade.water"),
+            ("20 by 100 each", "self.water <= 100 && self.impurities <= 100"),
+            ("20 without grade 1 and 2", "self.grade < 3 || self.water <= grade.water \
+              && self.impurities <= grade.impurities"),
+        ],
+    },
+    Edit {
+        module: "car",
+        old: "= «grade.density» {",
+        new: &[
+            ("21 by 9,600 for all", "Some(Density20(9_600))"),
+            ("21 by 9,600 for those without", "grade.density.or(Some(Density20(9_600)))"),
+            ("21 by 9,867 for those without", "grade.density.or(Some(Density20(9_867)))"),
+            ("21 by 9,550 for both", "grade.density.map(|_| Density20(9_550))"),
+            ("21 never", "None"),
+        ],
+    },
+    Edit {
+        module: "car",
+        old: "«thermal::density_at_20(density)»",
+        new: &[
+            ("21 by the density at 15", "Density20(density.0)"),
+            ("21 by the density at the oil's temperature", "Density20((u64::from(density.0) \
+              * thermal::contraction(density, self.temperature - 150) / 10_000_000_000) as u32)"),
+            ("21 by a linear density", "Density20(density.0 - 34)"),
+        ],
+    },
+    Edit {
+        module: "car",
+        old: "«table.capacity(level) - table.capacity(self.water_level)»",
+        new: &[
+            ("water not taken off", "table.capacity(level)"),
+            ("capacities rounded once", "crate::wrong::rounded_once(table, level, self.water_level)"),
+            ("volume in whole dm³", "(table.capacity(level) - table.capacity(self.water_level)) / 100 * 100"),
+            ("water by the first table", "table.capacity(level).saturating_sub(\
+              tables.find(crate::hooks::first_type()).filter(|first| \
+              first.last_level() >= self.water_level).unwrap_or(table).capacity(self.water_level))"),
+            ("capacity at the difference of levels", "table.capacity(level - self.water_level)"),
+        ],
+    },
+    Edit {
+        module: "car",
+        old: "(volume, «stick», self.temperature)",
+        new: &[
+            ("always steel", "Stick::Steel"),
+            ("always aluminium", "Stick::Aluminium"),
+        ],
+    },
+    Edit {
+        module: "car",
+        old: "«mass::volume_at_15(measured, density, self.temperature)»",
+        new: &[
+            ("V15 from the unrounded Vt", "crate::wrong::volume_at_15(volume, stick == Stick::Steel, \
+              self.temperature, self.density)"),
+            ("V15 without Vt", "mass::volume_at_15(volume, density, self.temperature)"),
+            ("V15 in double floating point", "(measured as f64 * (thermal::contraction(density, \
+              self.temperature - 150) as f64 / 1e10)).round() as u64"),
+        ],
+    },
+    Edit {
+        module: "car",
+        old: "«mass::gross(volume_at_15, density)»",
+        new: &[
+            ("gross from the unrounded V15", "crate::wrong::gross(measured, self.temperature, \
+              self.density)"),
+            ("gross in double floating point, from m³", "(volume_at_15 as f64 / 100_000.0 \
+              * (f64::from(self.density) / 10.0)).round() as u64"),
+            ("gross in single floating point, from m³", "(volume_at_15 as f32 / 100_000.0 \
+              * (self.density as f32 / 10.0)).round() as u64"),
+            ("gross by the density at 20", "crate::wrong::gross_by_20(volume_at_15, self.density)"),
+        ],
+    },
+    Edit {
+        module: "car",
+        old: "«mass::net(gross, self.water, self.impurities)»",
+        new: &[
+            ("net from the unrounded gross", "crate::wrong::net(volume_at_15, self.density, \
+              self.water + self.impurities)"),
+            ("water and impurities taken off one by one", "gross \
+              - crate::wrong::part(gross, self.water) - crate::wrong::part(gross, self.impurities)"),
+            ("water and impurities rounded and taken off", "gross \
+              - crate::wrong::part(gross, self.water + self.impurities)"),
+            ("impurities from what water leaves", "mass::net(mass::net(gross, self.water, 0), 0, \
+              self.impurities)"),
+            ("net in double floating point", "(gross as f64 * (1.0 - f64::from(self.water) / 1e4 \
+              - f64::from(self.impurities) / 1e4)).round() as u64"),
+            ("net in single floating point", "(gross as f32 * (1.0 - self.water as f32 / 1e4 \
+              - self.impurities as f32 / 1e4)).round() as u64"),
+        ],
+    },
+    Edit {
+        module: "thermal",
+        old: "1 => «Some(Self::Steel)»",
+        new: &[("sticks exchanged", "Some(Self::Aluminium)"), ("no steel", "None")],
+    },
+    Edit {
+        module: "thermal",
+        old: "2 => «Some(Self::Aluminium)»",
+        new: &[("sticks exchanged", "Some(Self::Steel)"), ("no aluminium", "None")],
+    },
+    Edit {
+        module: "thermal",
+        old: "_ => «None»",
+        new: &[("any stick is steel", "Some(Self::Steel)"), ("any stick is aluminium",
+              "Some(Self::Aluminium)"), ("stick 3 is taken", "if number == 3 \
+              { Some(Self::Steel) } else { None }"), ("sticks in 8 bits", "match number & 0xff \
+              { 1 => Some(Self::Steel), 2 => Some(Self::Aluminium), _ => None }")],
+    },
+    Edit {
+        module: "thermal",
+        old: "«exponential(exponent(coefficient(density), tenths))»",
+        new: &[
+            ("B unrounded", "crate::wrong::contraction(density.0, tenths, 0)"),
+            ("X unrounded", "crate::wrong::contraction(density.0, tenths, 1)"),
+            ("terms unrounded", "crate::wrong::contraction(density.0, tenths, 2)"),
+            ("the true exponential", "crate::wrong::contraction(density.0, tenths, 3)"),
+            ("nothing rounded before E", "crate::wrong::contraction(density.0, tenths, 4)"),
+            ("in single floating point", "crate::wrong::contraction(density.0, tenths, 5)"),
+            ("E rounded to 0.0001", "crate::wrong::to_digits(exponential(exponent(coefficient(density), tenths)), 4)"),
+            ("E rounded to 0.00001", "crate::wrong::to_digits(exponential(exponent(coefficient(density), tenths)), 5)"),
+            ("E rounded to 0.000001", "crate::wrong::to_digits(exponential(exponent(coefficient(density), tenths)), 6)"),
+            ("E rounded to 0.0000001", "crate::wrong::to_digits(exponential(exponent(coefficient(density), tenths)), 7)"),
+            ("E rounded to 8 digits", "crate::wrong::to_digits(exponential(exponent(coefficient(density), tenths)), 8)"),
+            ("E rounded to 9 digits", "crate::wrong::to_digits(exponential(exponent(coefficient(density), tenths)), 9)"),
+            ("seven terms", "crate::wrong::contraction(density.0, tenths, 6)"),
+            ("five terms", "crate::wrong::contraction(density.0, tenths, 7)"),
+            ("four terms", "crate::wrong::contraction(density.0, tenths, 8)"),
+            ("three terms", "crate::wrong::contraction(density.0, tenths, 9)"),
+            ("B rounded to 10⁻⁸", "exponential(exponent((coefficient(density) + 5) / 10 * 10, tenths))"),
+            ("B rounded to 10⁻⁷", "exponential(exponent((coefficient(density) + 50) / 100 * 100, tenths))"),
+            ("the square left out", "exponential(coefficient(density) * u64::from(tenths))"),
+            ("terms from the unrounded one before", "crate::wrong::contraction(density.0, tenths, 10)"),
+        ],
+    },
+    Edit {
+        module: "mass",
+        old: "contraction(density, «temperature - 150»)",
+        new: &[("from 20 °C", "temperature - 200"), ("whole degrees", "temperature / 10 * 10 - 150")],
+    },
+    Edit {
+        module: "train",
+        old: "if «self.numbers().contains(&car.number)» {",
+        new: &[
+            ("11 by the first number only", "self.numbers().first() == Some(&car.number)"),
+            ("11 by the last number only", "self.numbers().last() == Some(&car.number)"),
+            ("11 not by the first number", "self.numbers().iter().skip(1).any(|n| *n == car.number)"),
+            ("11 by half the numbers", "self.numbers()[..self.held / 2].contains(&car.number)"),
+            ("11 by the last thirty numbers", "self.numbers()[self.held.saturating_sub(30)..].contains(&car.number)"),
+            ("11 by the first thirty-two numbers", "self.numbers()[..self.held.min(32)].contains(&car.number)"),
+            ("11 in 16 bits", "self.numbers().iter().any(|n| *n as u16 == car.number as u16)"),
+            ("11 in 24 bits", "self.numbers().iter().any(|n| *n & 0xff_ffff == car.number & 0xff_ffff)"),
+            ("11 in single floating point", "self.numbers().iter().any(|n| *n as f32 == car.number as f32)"),
+            ("11 by seven digits", "self.numbers().iter().any(|n| *n % 10_000_000 == car.number % 10_000_000)"),
+            ("11 by the first seven digits", "self.numbers().iter().any(|n| *n / 10 == car.number / 10)"),
+            ("11 by a search in sorted numbers", "self.numbers().binary_search(&car.number).is_ok()"),
+            ("11 by a sum of digits", "self.numbers().iter().any(|n| n.to_string().bytes().map(u32::from).sum::<u32>() == car.number.to_string().bytes().map(u32::from).sum::<u32>())"),
+        ],
+    },
+    Edit {
+        module: "train",
+        old: "«self.numbers[self.held] = car.number;\n        self.held += 1;»",
+        new: &[
+            ("refused cars are not held", "if car.figures(tables).is_ok() { \
+              self.numbers[self.held] = car.number; self.held += 1; }"),
+            ("cars refused by 12 are not held", "if car.figures(tables) != Err(Refusal::Type) { \
+              self.numbers[self.held] = car.number; self.held += 1; }"),
+            ("cars refused by 13 are not held", "if car.figures(tables) != Err(Refusal::GradeOrStick) { \
+              self.numbers[self.held] = car.number; self.held += 1; }"),
+            ("cars refused by 14 are not held", "if car.figures(tables) != Err(Refusal::ReadingCount) { \
+              self.numbers[self.held] = car.number; self.held += 1; }"),
+            ("cars refused by 15 are not held", "if car.figures(tables) != Err(Refusal::ReadingsApart) { \
+              self.numbers[self.held] = car.number; self.held += 1; }"),
+            ("cars refused by 16 are not held", "if car.figures(tables) != Err(Refusal::Level) { \
+              self.numbers[self.held] = car.number; self.held += 1; }"),
+            ("cars refused by 17 are not held", "if car.figures(tables) != Err(Refusal::WaterLevel) { \
+              self.numbers[self.held] = car.number; self.held += 1; }"),
+            ("cars refused by 18 are not held", "if car.figures(tables) != Err(Refusal::Temperature) { \
+              self.numbers[self.held] = car.number; self.held += 1; }"),
+            ("cars refused by 19 are not held", "if car.figures(tables) != Err(Refusal::Density15) { \
+              self.numbers[self.held] = car.number; self.held += 1; }"),
+            ("cars refused by 20 are not held", "if car.figures(tables) != Err(Refusal::WaterOrImpurities) { \
+              self.numbers[self.held] = car.number; self.held += 1; }"),
+            ("cars refused by 21 are not held", "if car.figures(tables) != Err(Refusal::Density20) { \
+              self.numbers[self.held] = car.number; self.held += 1; }"),
+            ("accepted cars are not held", "if car.figures(tables).is_err() { \
+              self.numbers[self.held] = car.number; self.held += 1; }"),
+        ],
+    },
+    Edit {
+        module: "train",
+        old: "«self.accepted += 1;»",
+        new: &[("cars of mass 0 are not counted", "if figures.gross > 0 { self.accepted += 1; }")],
+    },
+];

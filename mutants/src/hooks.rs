@@ -1,0 +1,416 @@
+//! What the rewritten modules ask at every point: whether to go wrong there, and how.
+
+use std::sync::atomic::{AtomicU32, AtomicU64, AtomicUsize, Ordering::Relaxed};
+use std::sync::Mutex;
+
+use crate::turned::refusal::Refusal;
+use crate::POINTS;
+
+/// No point goes wrong.
+pub const NONE: usize = usize::MAX;
+/// No point goes wrong, and the points that are met are noted.
+const NOTED: usize = usize::MAX - 1;
+
+/// Asked this often at the point gone wrong, a program is taken to run for ever.
+const PATIENCE: u32 = 2_000_000;
+
+static POINT: AtomicUsize = AtomicUsize::new(NONE);
+static CHOICE: AtomicUsize = AtomicUsize::new(0);
+static KEY: AtomicUsize = AtomicUsize::new(0);
+static LOW: AtomicU32 = AtomicU32::new(0);
+static HIGH: AtomicU32 = AtomicU32::new(0);
+static SERIAL: AtomicU64 = AtomicU64::new(1);
+static ASKED: AtomicU32 = AtomicU32::new(0);
+static MET: Mutex<Vec<u64>> = Mutex::new(Vec::new());
+
+/// What is at hand: the key's number for each key.
+static PLACES: [AtomicU32; KEYS] = [const { AtomicU32::new(0) }; KEYS];
+
+pub const ALWAYS: usize = 0;
+pub const LINE: usize = 1;
+pub const FIELD: usize = 2;
+pub const TABLE: usize = 3;
+pub const ROW: usize = 4;
+pub const GRADE: usize = 5;
+pub const STICK: usize = 6;
+pub const GIVEN: usize = 7;
+pub const POWER: usize = 8;
+pub const AT: usize = 9;
+pub const CAR: usize = 10;
+/// The letter of the line of the answer.
+pub const ANSWER: usize = 19;
+const SKIPPED: usize = 11;
+const TYPES: usize = 12;
+const ROW_LEVEL: usize = 16;
+const ROW_CAPACITY: usize = 17;
+const TABLES: usize = 18;
+const KEYS: usize = 20;
+
+/// Where a wrong way is taken: where the key's number lies between two bounds.
+#[derive(Clone, Copy, Debug, PartialEq, Eq)]
+pub struct Context {
+    pub key: usize,
+    pub low: u32,
+    pub high: u32,
+}
+
+/// Two refusals that are tested in the other order, or none.
+static FIRST: AtomicU32 = AtomicU32::new(0);
+static SECOND: AtomicU32 = AtomicU32::new(0);
+
+/// Sets the point that goes wrong from here on.
+pub fn go_wrong(point: usize, choice: usize, context: Context) {
+    POINT.store(point, Relaxed);
+    CHOICE.store(choice, Relaxed);
+    KEY.store(context.key, Relaxed);
+    LOW.store(context.low, Relaxed);
+    HIGH.store(context.high, Relaxed);
+    SERIAL.fetch_add(1, Relaxed);
+}
+
+/// Sets two refusals that are tested in the other order from here on; 0 and 0 for none.
+pub fn exchange(first: u32, second: u32) {
+    FIRST.store(first, Relaxed);
+    SECOND.store(second, Relaxed);
+}
+
+/// Starts a sheet.
+pub fn begin_sheet() {
+    ASKED.store(0, Relaxed);
+    PLACES.iter().for_each(|place| place.store(0, Relaxed));
+}
+
+/// The contexts in which each point is met while `work` is done: a bit for each of the point's,
+/// in their order.
+pub fn met(work: impl FnOnce()) -> Vec<u64> {
+    begin_sheet();
+    *MET.lock().expect("no other thread") = vec![0; POINTS.len()];
+    POINT.store(NOTED, Relaxed);
+    SERIAL.fetch_add(1, Relaxed);
+    work();
+    POINT.store(NONE, Relaxed);
+    std::mem::take(&mut MET.lock().expect("no other thread"))
+}
+
+/// Changes with the point that goes wrong.
+pub fn serial() -> u64 {
+    SERIAL.load(Relaxed)
+}
+
+pub fn place(key: usize, number: u32) {
+    PLACES[key].store(number, Relaxed);
+}
+
+fn at(key: usize) -> u32 {
+    PLACES[key].load(Relaxed)
+}
+
+/// A line is looked at.
+pub fn begin_line(rest: &[u8]) {
+    let letter = rest.first().copied().unwrap_or(0);
+    place(LINE, u32::from(letter));
+    place(FIELD, 100 * u32::from(letter));
+}
+
+/// A line of the answer is written.
+pub fn begin_answer(letter: u8) {
+    place(LINE, 0);
+    place(FIELD, 0);
+    place(ANSWER, u32::from(letter));
+}
+
+pub fn next_field() {
+    place(FIELD, at(FIELD) + 1);
+}
+
+pub fn next_car() {
+    place(CAR, at(CAR) + 1);
+}
+
+pub fn begin_table(before: usize, car_type: u32) {
+    place(TABLE, before as u32 + 1);
+    place(TABLES, (before as u32 + 1).min(4));
+    place(ROW, 0);
+    place(TYPES + before.min(3), car_type);
+}
+
+pub fn begin_row(table: usize, before: usize) {
+    place(TABLE, table as u32);
+    place(ROW, before as u32 + 1);
+}
+
+pub fn end_row(level: u32, capacity: u32) {
+    place(ROW_LEVEL, level);
+    place(ROW_CAPACITY, capacity);
+}
+
+pub fn first_type() -> u32 {
+    at(TYPES)
+}
+
+/// The types of the tables read.
+pub fn types() -> Vec<u32> {
+    (0..at(TABLES) as usize).map(|table| at(TYPES + table)).collect()
+}
+
+/// Level and capacity of the row before, and the rows read of its table.
+pub fn row_before() -> (u32, u32, u32) {
+    (at(ROW_LEVEL), at(ROW_CAPACITY), at(ROW))
+}
+
+/// The wrong way to take at a point, counted from 1, or 0.
+pub fn chosen(point: usize) -> usize {
+    let wrong = POINT.load(Relaxed);
+    if wrong == point {
+        asked()
+    } else if wrong == NOTED {
+        note(point);
+        0
+    } else {
+        0
+    }
+}
+
+impl Context {
+    /// Whether it is at hand.
+    fn is_here(self) -> bool {
+        self.key == ALWAYS || (self.low..=self.high).contains(&at(self.key))
+    }
+}
+
+fn note(point: usize) {
+    let bits = crate::mutants::contexts_of(point)
+        .iter()
+        .enumerate()
+        .fold(0, |bits, (place, context)| bits | u64::from(context.is_here()) << place);
+    MET.lock().expect("no other thread")[point] |= bits;
+}
+
+#[cold]
+fn asked() -> usize {
+    let context =
+        Context { key: KEY.load(Relaxed), low: LOW.load(Relaxed), high: HIGH.load(Relaxed) };
+    assert!(ASKED.fetch_add(1, Relaxed) < PATIENCE, "runs for ever");
+    if context.is_here() {
+        CHOICE.load(Relaxed)
+    } else {
+        0
+    }
+}
+
+/// The name of the wrong way to take at a point, or none.
+fn named(point: usize) -> &'static str {
+    match chosen(point) {
+        0 => "",
+        choice => POINTS[point].choices[choice - 1],
+    }
+}
+
+/// Whether a refusal is left untested for the moment.
+pub fn skipped(refusal: u32) -> bool {
+    at(SKIPPED) == refusal
+}
+
+/// The refusal that is given in place of `first` where the two are tested in the other order.
+pub fn overtaken<T>(first: u32, work: impl FnOnce() -> Result<T, Refusal>) -> Option<Refusal> {
+    if FIRST.load(Relaxed) != first {
+        return None;
+    }
+    let later = first + 1..=SECOND.load(Relaxed);
+    work().err().filter(|other| later.contains(&other.number()))
+}
+
+/// The answer of `work` where two of its refusals are tested in the other order.
+pub fn reordered<T>(work: impl Fn() -> Result<T, Refusal>) -> Result<T, Refusal> {
+    let first = FIRST.load(Relaxed);
+    if first >= 12 {
+        place(SKIPPED, first);
+        let other = overtaken(first, &work);
+        place(SKIPPED, 0);
+        if let Some(other) = other {
+            return Err(other);
+        }
+    }
+    work()
+}
+
+/// Whole numbers of the rules.
+pub trait Number: Copy + PartialEq {
+    fn of(wide: u128) -> Self;
+    fn wide(self) -> u128;
+    fn double(number: f64) -> Self;
+}
+
+macro_rules! number {
+    ($($kind:ty),*) => {$(
+        impl Number for $kind {
+            fn of(wide: u128) -> Self {
+                wide as Self
+            }
+            fn wide(self) -> u128 {
+                self as u128
+            }
+            fn double(number: f64) -> Self {
+                number as Self
+            }
+        }
+    )*};
+}
+
+number!(u8, u32, u64, usize);
+
+pub fn number<T: Number>(point: usize, right: T) -> T {
+    match chosen(point) {
+        0 => right,
+        choice => T::of(u128::from(POINTS[point].values[choice - 1])),
+    }
+}
+
+pub fn constant<T: Number>(point: usize, right: T) -> T {
+    match chosen(point) {
+        0 => right,
+        1 => T::of(right.wide() + 1),
+        _ => T::of(right.wide().wrapping_sub(1)),
+    }
+}
+
+/// One of the letters is left out, or comes in.
+pub fn letters(point: usize, right: &'static [u8]) -> &'static [u8] {
+    const ALL: [&[u8]; 16] = [
+        b"", b"T", b"R", b"TR", b"C", b"TC", b"RC", b"TRC", b"E", b"TE", b"RE", b"TRE", b"CE",
+        b"TCE", b"RCE", b"TRCE",
+    ];
+    match chosen(point) {
+        0 => right,
+        choice => {
+            let places = b"TRCE".iter().enumerate();
+            let bits = places.map(|(place, letter)| usize::from(right.contains(letter)) << place);
+            ALL[bits.sum::<usize>() ^ 1 << (choice - 1)]
+        }
+    }
+}
+
+pub fn flip(point: usize) -> bool {
+    chosen(point) == 0
+}
+
+/// In single floating point.
+fn single<T: Number>(a: T, b: T, work: fn(f32, f32) -> f32) -> T {
+    T::double(f64::from(work(a.wide() as f32, b.wide() as f32)))
+}
+
+/// In double floating point.
+fn double<T: Number>(a: T, b: T, work: fn(f64, f64) -> f64) -> T {
+    T::double(work(a.wide() as f64, b.wide() as f64))
+}
+
+/// The wrong ways that all operators have in common.
+fn calculated<T: Number>(way: &str, a: T, b: T) -> T {
+    let (left, right) = (a.wide(), b.wide());
+    match way {
+        "left alone" => a,
+        "right alone" => b,
+        "+" => T::of(left.wrapping_add(right)),
+        "-" => T::of(left.wrapping_sub(right)),
+        "right less left" => T::of(right.wrapping_sub(left)),
+        "*" => T::of(left.wrapping_mul(right)),
+        "/" => T::of(left / right),
+        "rounded up" => T::of(left.div_ceil(right)),
+        "%" => T::of(left % right),
+        other => unreachable!("no way {other}"),
+    }
+}
+
+pub fn plus<T: Number>(point: usize, a: T, b: T) -> T {
+    match named(point) {
+        "" => T::of(a.wide().wrapping_add(b.wide())),
+        "single" => single(a, b, |a, b| a + b),
+        way => calculated(way, a, b),
+    }
+}
+
+pub fn minus<T: Number>(point: usize, a: T, b: T) -> T {
+    match named(point) {
+        "" => T::of(a.wide().wrapping_sub(b.wide())),
+        "single" => single(a, b, |a, b| a - b),
+        way => calculated(way, a, b),
+    }
+}
+
+pub fn times<T: Number>(point: usize, a: T, b: T) -> T {
+    match named(point) {
+        "" => T::of(a.wide().wrapping_mul(b.wide())),
+        "single" => single(a, b, |a, b| a * b),
+        "double" => double(a, b, |a, b| a * b),
+        way => calculated(way, a, b),
+    }
+}
+
+pub fn divided<T: Number>(point: usize, a: T, b: T) -> T {
+    match named(point) {
+        "" => T::of(a.wide() / b.wide()),
+        way => calculated(way, a, b),
+    }
+}
+
+pub fn remainder<T: Number>(point: usize, a: T, b: T) -> T {
+    match named(point) {
+        "" => T::of(a.wide() % b.wide()),
+        way => calculated(way, a, b),
+    }
+}
+
+pub fn equal<T: PartialEq>(point: usize, a: T, right: &'static str, b: T) -> bool {
+    let way = named(point);
+    match if way.is_empty() { right } else { way } {
+        "==" => a == b,
+        "!=" => a != b,
+        way => way == "true",
+    }
+}
+
+pub fn compared<T: PartialOrd>(point: usize, a: T, right: &'static str, b: T) -> bool {
+    let way = named(point);
+    match if way.is_empty() { right } else { way } {
+        "<" => a < b,
+        "<=" => a <= b,
+        ">" => a > b,
+        ">=" => a >= b,
+        "==" => a == b,
+        "!=" => a != b,
+        way => way == "true",
+    }
+}
+
+pub fn joined(point: usize, a: bool, right: &'static str, b: impl FnOnce() -> bool) -> bool {
+    let way = named(point);
+    match if way.is_empty() { right } else { way } {
+        "&&" => a && b(),
+        "||" => a || b(),
+        "left alone" => a,
+        _ => b(),
+    }
+}
+
+pub fn rounding(point: usize, dividend: u64, divisor: u64) -> u64 {
+    let (down, rest) = (dividend / divisor, dividend % divisor);
+    let half = rest == divisor - rest;
+    match named(point) {
+        "" => crate::turned::rounding::nearest(dividend, divisor),
+        "rounded down" => down,
+        "rounded up" => dividend.div_ceil(divisor),
+        "a half rounded down" => down + u64::from(rest > divisor - rest),
+        "a half rounded to even" if half => down + down % 2,
+        "a half rounded to even" => down + u64::from(rest > divisor - rest),
+        "in double floating point" => (dividend as f64 / divisor as f64).round() as u64,
+        "in single floating point" => (dividend as f32 / divisor as f32).round() as u64,
+        "a half added in double floating point" => {
+            (dividend as f64 / divisor as f64 + 0.5).floor() as u64
+        }
+        "dividend cut to 32 bits" => {
+            crate::turned::rounding::nearest(dividend & 0xffff_ffff, divisor)
+        }
+        "one unit more" => crate::turned::rounding::nearest(dividend, divisor) + 1,
+        way => unreachable!("no way {way}"),
+    }
+}

@@ -1,0 +1,197 @@
+//! Counts which wrong programs the conformance kit catches, which only the generator of sheets
+//! does, and which neither: `mutants [OPTION NUMBER]...`; the README has the options.
+
+mod grid;
+mod hooks;
+mod mutants;
+mod trial;
+/// The reference's modules, with points.
+#[allow(clippy::all, unused, unused_parens, unreachable_code)]
+mod turned {
+    include!(concat!(env!("OUT_DIR"), "/turned.rs"));
+}
+mod wrong;
+
+use std::process::ExitCode;
+
+use mutants::Mutant;
+use trial::Trial;
+
+/// A place at which a program can go wrong.
+pub struct Point {
+    pub module: &'static str,
+    pub function: &'static str,
+    pub line: u32,
+    pub code: &'static str,
+    pub what: &'static str,
+    /// The wrong ways, by name.
+    pub choices: &'static [&'static str],
+    /// The wrong numbers, where the point is a number.
+    pub values: &'static [u64],
+}
+
+pub const POINTS: &[Point] = include!(concat!(env!("OUT_DIR"), "/points.rs"));
+
+/// Programs that no sheet tells from the right one, with the reasons.
+const EQUIVALENT: &str = include_str!("../EQUIVALENT.md");
+
+struct Options {
+    every: usize,
+    sheets: u64,
+    kit: usize,
+    search: u64,
+    grid: bool,
+    generator: u64,
+}
+
+fn main() -> ExitCode {
+    let Some(options) = options() else {
+        eprintln!("usage: mutants [--every N] [--sheets COUNT] [--kit FIRST] [--generator 0] [--search SEEDS] [--grid 1]");
+        return ExitCode::from(2);
+    };
+    std::panic::set_hook(Box::new(|_| {}));
+    let kit: Vec<Trial> = reference::conformance::cases()
+        .into_iter()
+        .take(options.kit)
+        .map(|case| Trial::new(case.name.to_string(), case.sheet))
+        .collect();
+    let drawn = (0..options.sheets)
+        .map(|seed| Trial::new(format!("seed {seed}"), reference::sheets::sheet(seed)));
+    let generated: Vec<Trial> = drawn.chain(grid::every_density()).collect();
+    let met = |mutant: &Mutant| kit.iter().chain(&generated).any(|trial| trial.meets(*mutant));
+    let (list, unmet): (Vec<Mutant>, Vec<Mutant>) =
+        mutants::all().into_iter().step_by(options.every).partition(met);
+    let (left, _) = measure(&list, &kit);
+    println!("{} wrong programs at {} points", list.len(), POINTS.len());
+    println!("left out, none of these sheets comes to where they go wrong: {}", unmet.len());
+    if options.generator > 1 {
+        unmet.iter().for_each(|mutant| println!("unmet: {mutant}"));
+    }
+    println!("caught by the {} sheets of the kit: {}", kit.len(), list.len() - left.len());
+    if options.generator > 0 {
+        let drawn = &generated[..options.sheets as usize];
+        let (missed, _) = measure(&list, drawn);
+        println!("caught by {} generated sheets: {}", drawn.len(), list.len() - missed.len());
+        let named = missed.iter().filter(|mutant| options.generator > 1 && !is_listed(mutant));
+        named.for_each(|mutant| println!("missed: {mutant}"));
+    }
+
+    let (listed, open): (Vec<Mutant>, Vec<Mutant>) = left.into_iter().partition(is_listed);
+    if options.grid {
+        listed.iter().chain(&open).for_each(|&mutant| grid::report(mutant));
+        return ExitCode::SUCCESS;
+    }
+    if options.search > 0 {
+        search(open, options.search);
+        return ExitCode::SUCCESS;
+    }
+    let (neither, by_seed) = measure(&open, &generated);
+    println!("caught by the generator only: {}", open.len() - neither.len());
+    println!("caught by neither: {}", neither.len());
+    println!("told apart by no sheet, listed with the reason: {}", listed.len());
+    let (_, told) = measure(&listed, &generated);
+    for (mutant, name) in &told {
+        println!("listed, but told apart by {name}: {mutant}");
+    }
+    for (mutant, name) in by_seed {
+        println!("generator only ({name}): {mutant}");
+    }
+    for mutant in &neither {
+        println!("neither: {mutant}");
+    }
+    if open.is_empty() && told.is_empty() {
+        ExitCode::SUCCESS
+    } else {
+        ExitCode::FAILURE
+    }
+}
+
+/// Names the seeds of sheets of figures that catch most of what the kit leaves, the best first.
+fn search(mut open: Vec<Mutant>, seeds: u64) {
+    let sheets: Vec<Trial> = (0..seeds)
+        .map(|seed| Trial::new(seed.to_string(), reference::conformance::figures::sheet(seed)))
+        .collect();
+    let catches: Vec<Vec<usize>> = open
+        .iter()
+        .map(|&mutant| {
+            let tried = (0..sheets.len())
+                .filter(|&place| trial::caught_by(mutant, &sheets[place..=place], 0).is_some());
+            tried.collect()
+        })
+        .collect();
+    let mut left: Vec<usize> =
+        (0..open.len()).filter(|&place| !catches[place].is_empty()).collect();
+    while !left.is_empty() {
+        let count = |seed: usize| left.iter().filter(|&&m| catches[m].contains(&seed)).count();
+        let best = (0..sheets.len()).max_by_key(|&seed| count(seed)).expect("a sheet");
+        println!("seed {best}: {}", count(best));
+        left.retain(|&mutant| !catches[mutant].contains(&best));
+    }
+    let mut place = 0;
+    open.retain(|_| {
+        place += 1;
+        catches[place - 1].is_empty()
+    });
+    open.iter().for_each(|mutant| println!("neither: {mutant}"));
+}
+
+fn options() -> Option<Options> {
+    let mut options =
+        Options { every: 1, sheets: 2_000, kit: usize::MAX, search: 0, grid: false, generator: 1 };
+    let mut words = std::env::args().skip(1);
+    while let Some(word) = words.next() {
+        let number: u64 = words.next()?.parse().ok()?;
+        match word.as_str() {
+            "--every" => options.every = number.max(1) as usize,
+            "--sheets" => options.sheets = number,
+            "--kit" => options.kit = number as usize,
+            "--search" => options.search = number,
+            "--generator" => options.generator = number,
+            "--grid" => options.grid = number > 0,
+            _ => return None,
+        }
+    }
+    Some(options)
+}
+
+/// The wrong programs that no trial catches, and those caught with the catching trial's name.
+fn measure<'a>(list: &[Mutant], trials: &'a [Trial]) -> (Vec<Mutant>, Vec<(Mutant, &'a str)>) {
+    let mut left = Vec::new();
+    let mut caught = Vec::new();
+    let mut hint = 0;
+    for &mutant in list {
+        match trial::caught_by(mutant, trials, hint) {
+            Some(place) => {
+                hint = place;
+                caught.push((mutant, trials[place].name.as_str()));
+            }
+            None => left.push(mutant),
+        }
+    }
+    (left, caught)
+}
+
+/// Whether a line of the list of equivalent programs, in which `*` stands for anything, fits.
+fn is_listed(mutant: &Mutant) -> bool {
+    let text = mutant.to_string();
+    EQUIVALENT.lines().filter_map(|line| line.strip_prefix("    ")).any(|line| fits(line, &text))
+}
+
+fn fits(pattern: &str, text: &str) -> bool {
+    let mut rest = text;
+    let parts: Vec<&str> = pattern.split('*').collect();
+    for (place, part) in parts.iter().enumerate() {
+        let found = if place == 0 {
+            rest.starts_with(part).then_some(0)
+        } else if place + 1 == parts.len() {
+            rest.ends_with(part).then(|| rest.len() - part.len())
+        } else {
+            rest.find(part)
+        };
+        match found {
+            Some(at) => rest = &rest[at + part.len()..],
+            None => return false,
+        }
+    }
+    rest.is_empty() || parts.last() == Some(&"")
+}

@@ -1,0 +1,144 @@
+//! The list of wrong programs: every wrong way at every point, also held to one line, field, table
+//! or car, and every two refusals of a car tested in the other order.
+
+use std::fmt;
+use std::sync::OnceLock;
+
+use crate::hooks::{self, Context};
+use crate::{Point, POINTS};
+
+#[derive(Clone, Copy, Debug)]
+pub enum Mutant {
+    /// A point, a wrong way counted from 1, and which of the point's contexts it is held to.
+    Point(usize, usize, usize),
+    /// Two refusals, the first of which is tested directly after the second.
+    Order(u32, u32),
+}
+
+const EVERYWHERE: Context = Context { key: hooks::ALWAYS, low: 0, high: 0 };
+
+/// Keys to whose numbers the wrong ways of a point are held one by one. Lists of constants are made
+/// once and know none.
+fn keys(point: &Point) -> &'static [usize] {
+    match (point.module, point.function) {
+        (_, "") => &[],
+        ("line", _) if point.choices[0].starts_with("each field") => &[hooks::LINE, hooks::FIELD],
+        ("field" | "line", _) => &[hooks::LINE, hooks::ANSWER],
+        ("listing", "write") => &[hooks::ANSWER],
+        ("sheet", _) => &[hooks::LINE],
+        ("table", "add") => &[hooks::TABLE, hooks::ROW],
+        ("table", "find" | "new") => &[],
+        ("table", _) => &[hooks::TABLE],
+        ("level", _) => &[hooks::GIVEN],
+        ("car", _) => &[hooks::GRADE, hooks::STICK, hooks::TABLE, hooks::GIVEN],
+        ("thermal", "exponential") => &[hooks::AT, hooks::POWER, hooks::STICK, hooks::GRADE],
+        ("thermal", "numbered" | "expansion" | "volume_at_temperature") => {
+            &[hooks::STICK, hooks::GRADE]
+        }
+        ("thermal", _) => &[hooks::AT, hooks::STICK, hooks::GRADE],
+        ("mass", _) => &[hooks::STICK, hooks::GRADE, hooks::TABLE],
+        ("train", "enter") if point.what == "statement" => &[hooks::CAR],
+        _ => &[],
+    }
+}
+
+/// The ranges of numbers that a key is tried with.
+fn ranges(key: usize) -> Vec<(u32, u32)> {
+    let each = |numbers: std::ops::RangeInclusive<u32>| numbers.map(|n| (n, n)).collect();
+    match key {
+        hooks::LINE => b"TRCE".map(|letter| (u32::from(letter), u32::from(letter))).to_vec(),
+        hooks::ANSWER => b"AXSZ".map(|letter| (u32::from(letter), u32::from(letter))).to_vec(),
+        hooks::FIELD => fields(),
+        hooks::TABLE | hooks::GRADE => each(1..=4),
+        hooks::ROW => vec![(1, 1), (2, 2), (3, 3), (4, 400), (256, 400), (400, 400)],
+        hooks::STICK => each(1..=2),
+        hooks::GIVEN => vec![(2, 2), (4, 4)],
+        hooks::POWER => each(2..=6),
+        hooks::AT => vec![(15, 15), (20, 20)],
+        _ => each(1..=60),
+    }
+}
+
+/// Every field of every line of a sheet.
+fn fields() -> Vec<(u32, u32)> {
+    let counts = [(b'T', 2), (b'R', 2), (b'C', 14), (b'E', 1)];
+    let of = |(letter, count): (u8, u32)| (1..=count).map(move |f| 100 * u32::from(letter) + f);
+    counts.into_iter().flat_map(of).map(|field| (field, field)).collect()
+}
+
+/// The contexts of each point, everywhere first.
+pub fn contexts_of(point: usize) -> &'static [Context] {
+    static LISTS: OnceLock<Vec<Vec<Context>>> = OnceLock::new();
+    &LISTS.get_or_init(|| POINTS.iter().map(contexts).collect())[point]
+}
+
+fn contexts(point: &Point) -> Vec<Context> {
+    let of =
+        |&key: &usize| ranges(key).into_iter().map(move |(low, high)| Context { key, low, high });
+    std::iter::once(EVERYWHERE).chain(keys(point).iter().flat_map(of)).collect()
+}
+
+/// Whether a wrong way is tried in a context: some are for fields, some for lines alone.
+fn is_tried(name: &str, context: Context) -> bool {
+    match context.key {
+        hooks::FIELD => name.starts_with("each field"),
+        hooks::LINE | hooks::ANSWER => !name.starts_with("each field"),
+        _ => true,
+    }
+}
+
+/// All wrong programs.
+pub fn all() -> Vec<Mutant> {
+    let of_points = (0..POINTS.len()).flat_map(|point| {
+        let choices = POINTS[point].choices.iter().enumerate();
+        choices.flat_map(move |(choice, name)| {
+            let places = (0..contexts_of(point).len())
+                .filter(move |&place| is_tried(name, contexts_of(point)[place]));
+            places.map(move |place| Mutant::Point(point, choice + 1, place))
+        })
+    });
+    let orders = (10..=20)
+        .flat_map(|first| (first + 1..=21).map(move |second| Mutant::Order(first, second)));
+    of_points.chain(orders).collect()
+}
+
+impl fmt::Display for Mutant {
+    fn fmt(&self, to: &mut fmt::Formatter) -> fmt::Result {
+        match *self {
+            Self::Point(point, choice, place) => {
+                let context = contexts_of(point)[place];
+                let here = &POINTS[point];
+                let (module, function, code) = (here.module, here.function, here.code);
+                let way = here.choices[choice - 1];
+                write!(to, "{module}.{function} | {code} | {} -> {way} | {context}", here.what)
+            }
+            Self::Order(first, second) => write!(to, "order | {first} directly after {second} | |"),
+        }
+    }
+}
+
+impl fmt::Display for Context {
+    fn fmt(&self, to: &mut fmt::Formatter) -> fmt::Result {
+        let names = [
+            "everywhere",
+            "line",
+            "field",
+            "table",
+            "row",
+            "grade",
+            "stick",
+            "given",
+            "power",
+            "at",
+            "car",
+        ];
+        let Self { key, low, high } = *self;
+        match key {
+            hooks::ALWAYS => write!(to, "{}", names[0]),
+            hooks::LINE | hooks::ANSWER => write!(to, "line {}", low as u8 as char),
+            hooks::FIELD => write!(to, "field {} of {}", low % 100, (low / 100) as u8 as char),
+            _ if low == high => write!(to, "{} {low}", names[key]),
+            _ => write!(to, "{} {low} to {high}", names[key]),
+        }
+    }
+}

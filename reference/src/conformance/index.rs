@@ -1,0 +1,156 @@
+//! The index of the cases: the rule that each tries, where it shows, and what it tries.
+
+use super::Case;
+
+/// What each refusal says, in a few words.
+const REFUSALS: [&str; 22] = [
+    "",
+    "the answer buffer is too short",
+    "the sheet is too long",
+    "a line is missing or has no line feed",
+    "the letter may not come next",
+    "the line's length is not its letter's",
+    "a field is not a number",
+    "a bad T line",
+    "a bad R line",
+    "the count of cars, or bytes after the end",
+    "the car number",
+    "the car number stands on an earlier line",
+    "no table has the type",
+    "grade or stick",
+    "the number of readings, or an unused one",
+    "two readings apart",
+    "the mean level",
+    "the water level",
+    "the temperature",
+    "the density at 15 °C",
+    "water or impurities",
+    "the density at 20 °C",
+];
+
+/// Words of a name that tell the step it tries.
+const STEPS: [(&str, &str); 20] = [
+    ("mean", "step 1"),
+    ("reading", "step 1"),
+    ("triple", "step 1"),
+    ("first-two", "step 1"),
+    ("level-1", "step 1"),
+    ("capacit", "step 2"),
+    ("flat", "step 2"),
+    ("levels", "steps 1 and 2"),
+    ("volume-at-temperature", "step 3"),
+    ("wall", "step 3"),
+    ("sticks", "step 3"),
+    ("coefficient", "step 4"),
+    ("square", "step 5"),
+    ("exponent", "steps 4 to 6"),
+    ("volume-at-15", "step 7"),
+    ("expansion-of-oil", "step 7"),
+    ("gross", "step 8"),
+    ("net", "step 8"),
+    ("density-at-20", "step 9"),
+    ("densest", "refusal 21"),
+];
+
+/// The index as Markdown.
+pub fn of(cases: &[Case]) -> String {
+    let mut text = format!(
+        "# Index of the {} sheets\n\n\
+         Made by `make_conformance`. The rule is that of document 01; lines are counted from 1 on the \
+         sheet.\n\n| Sheet | Rule | Shown by | What it tries |\n|---|---|---|---|\n",
+        cases.len()
+    );
+    let mut sorted: Vec<&Case> = cases.iter().collect();
+    sorted.sort_by_key(|case| case.name);
+    for case in sorted {
+        let row = [format!("`{}`", case.name), rule(case.name), shown_by(case), words(case.name)];
+        text.push_str(&format!("| {} |\n", row.join(" | ")));
+    }
+    text
+}
+
+/// The refusal in two digits at the start of a text.
+fn refusal(text: &str) -> Option<usize> {
+    text.get(..2)?.parse().ok().filter(|number| *number < REFUSALS.len())
+}
+
+fn rule(name: &str) -> String {
+    if let Some(first) = name.strip_prefix("refusal-").and_then(refusal) {
+        let last = name.split_once("-to-").and_then(|(_, rest)| refusal(rest));
+        return last
+            .map_or(format!("refusal {first}"), |last| format!("refusals {first} to {last}"));
+    }
+    if let Some(rest) = name.strip_prefix("order-") {
+        return refusal(rest).map_or("order of refusals".to_string(), |first| {
+            let second = rest.split_once("before-").and_then(|(_, rest)| refusal(rest));
+            second.map_or(format!("refusal {first}"), |second| format!("{first} before {second}"))
+        });
+    }
+    let step = STEPS.iter().find(|(word, _)| name.contains(word)).map(|(_, step)| *step);
+    match name.split('-').next() {
+        Some("paper") => "the sheet of 01".to_string(),
+        Some("card") => "the rack card".to_string(),
+        Some("source") => "the standards".to_string(),
+        Some("figures") => "steps 1 to 8".to_string(),
+        _ => step.unwrap_or("the sheet's form").to_string(),
+    }
+}
+
+/// The name in words, after what its kind says.
+fn words(name: &str) -> String {
+    let (kind, rest) = name.split_once('-').unwrap_or((name, ""));
+    let plain = rest.replace('-', " ");
+    let numbered = |text: &str| text.get(2..).unwrap_or("").trim_start().to_string();
+    match (kind, refusal(rest)) {
+        ("refusal", Some(number)) if plain.get(2..6) == Some(" to ") => {
+            format!("Refusal {number} and those after it: {}.", numbered(&plain))
+        }
+        ("refusal", Some(number)) => {
+            format!("Refusal {number}, {}: {}.", REFUSALS[number], numbered(&plain))
+        }
+        ("order", Some(number)) => {
+            format!("Two faults, of which {number} is given ({}): {plain}.", REFUSALS[number])
+        }
+        ("order", None) => format!("Two faults, of which one is given: {plain}."),
+        ("accepted", _) => format!("Just within the rules: {plain}."),
+        ("rounding", _) => format!("A rounding: {plain}."),
+        ("parting", _) => format!("Told from a program that takes the wrong way: {plain}."),
+        ("figures", _) => format!("Figures that a wrong calculation misses: {plain}."),
+        ("card", _) => format!("Figures of the rack card: {plain}."),
+        ("source", _) => format!("From the standards: {plain}."),
+        _ => format!("The sheet that the rules print: {plain}."),
+    }
+}
+
+/// The line, or the car with its line, that shows what is tried.
+fn shown_by(case: &Case) -> String {
+    let listing = String::from_utf8_lossy(&case.listing).into_owned();
+    let first: Vec<&str> = listing.split_whitespace().take(3).collect();
+    if first[0] == "Z" {
+        let whole = first[1] == "0";
+        return if whole { "the whole sheet".to_string() } else { format!("line {}", first[1]) };
+    }
+    let cars: Vec<&str> = listing.lines().filter(|line| !line.starts_with('S')).collect();
+    let begin =
+        case.sheet.split(|&byte| byte == b'\n').position(|line| line.first() == Some(&b'C'));
+    let Some(begin) = begin else { return "the listing without cars".to_string() };
+    let wanted = case.name.strip_prefix("refusal-").and_then(refusal);
+    let shows = |line: &&str| match wanted {
+        Some(number) => line.starts_with('X') && line.ends_with(&format!("{number:>9}")),
+        None => true,
+    };
+    let places: Vec<usize> = (0..cars.len()).filter(|&place| shows(&cars[place])).collect();
+    let car = |place: usize| cars[place].split_whitespace().nth(1).unwrap_or("").to_string();
+    match places.as_slice() {
+        [] => "all cars".to_string(),
+        [one] => format!("car {}, line {}", car(*one), begin + one + 1),
+        [one, .., last] => format!(
+            "{} cars, {} in line {} to {} in line {}",
+            places.len(),
+            car(*one),
+            begin + one + 1,
+            car(*last),
+            begin + last + 1
+        ),
+    }
+}

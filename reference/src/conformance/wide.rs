@@ -1,0 +1,88 @@
+//! Numbers that a program with words of 8, 16 or 18 bits would cut to others that pass.
+
+use super::rack::{self, numbered, CAR};
+use super::text::{change, columns};
+use super::Case;
+use crate::car::{Car, FIELDS};
+
+pub fn cases() -> Vec<Case> {
+    let rack = rack::sheet();
+    vec![
+        numbered(
+            "refusal-12-to-20-by-numbers-65536-too-high",
+            &raised(65_536, 1..FIELDS),
+            "X 1 12
+             X 2 13
+             X 3 13
+             X 4 14
+             X 5 15
+             X 6 15
+             X 7 14
+             X 8 14
+             X 9 17
+             X 10 18
+             X 11 19
+             X 12 20
+             X 13 20
+             S 0 0 0",
+        ),
+        numbered(
+            "refusal-12-to-20-by-numbers-256-too-high",
+            &[raised(256, 1..5), raised(256, 12..FIELDS), sticks()].concat(),
+            "X 1 12
+             X 2 13
+             X 3 13
+             X 4 14
+             X 5 20
+             X 6 20
+             X 7 13
+             X 8 13
+             X 9 13
+             S 0 0 0",
+        ),
+        numbered(
+            "refusal-15-and-16-by-readings-65536-apart",
+            &[
+                Car { readings: [1500, 67_036, 0, 0], ..CAR },
+                Car { readings: [67_036, 1500, 0, 0], ..CAR },
+                Car { readings: [67_036, 67_036, 0, 0], ..CAR },
+                Car { given: 4, readings: [1500, 67_036, 1504, 1505], ..CAR },
+                Car { given: 4, readings: [1500, 1510, 67_036, 67_046], ..CAR },
+                Car { given: 4, readings: [1500, 1508, 67_040, 67_044], ..CAR },
+                Car { given: 4, readings: [1500, 1502, 1501, 67_037], ..CAR },
+                Car { given: 4, readings: [1500, 1503, 1501, 1600], ..CAR },
+            ],
+            "X 1 15
+             X 2 15
+             X 3 16
+             A 4 1503 3509000 3401238 32312 32086
+             X 5 16
+             X 6 16
+             A 7 1501 3503000 3395423 32257 32031
+             A 8 1501 3503000 3395423 32257 32031
+             S 3 96826 96148",
+        ),
+        Case::new("refusal-07-type-65537", columns("T 65537 2\nR 0 0\nR 9 9\nE 0"), "Z 1 7"),
+        Case::new("refusal-07-65538-rows", columns("T 1 65538\nR 0 0\nR 9 9\nE 0"), "Z 1 7"),
+        Case::new("refusal-08-level-65545", columns("T 1 2\nR 0 0\nR 65545 9\nE 0"), "Z 3 8"),
+        Case::new("refusal-08-capacity-262153", columns("T 1 2\nR 0 0\nR 9 262153\nE 0"), "Z 3 8"),
+        Case::new("refusal-09-count-65537", change(&rack, 7, b"     1", b" 65537"), "Z 7 9"),
+    ]
+}
+
+/// Cars of the other grades with a stick that is 256 too high.
+fn sticks() -> Vec<Car> {
+    let of = |grade| Car { grade, stick: 257, water: 0, impurities: 0, density: 9400, ..CAR };
+    [1, 2, 4].map(of).to_vec()
+}
+
+/// The paper's car once for each of some fields, the field too high.
+fn raised(by: u32, fields: std::ops::Range<usize>) -> Vec<Car> {
+    fields
+        .map(|field| {
+            let mut numbers = <[u32; FIELDS]>::from(CAR);
+            numbers[field] += by;
+            Car::from(numbers)
+        })
+        .collect()
+}
