@@ -3,8 +3,8 @@
  * Ends with the sheet's refusal number as its status, 0 where it has none, 100 for other trouble.
  *
  * At the top of the repository:
- *     rt staticlib exported
- *     cc -std=c99 -Wall -Wextra -O2 -Iinclude examples/answer.c target/staticlib/libexported.a -o answer
+ *     bin/library
+ *     cc -std=c99 -Wall -Wextra -O2 -Iinclude examples/answer.c target/staticlib/librack.a -o answer
  *     ./answer crates/rack/stdin
  */
 #include <stdio.h>

@@ -2,8 +2,8 @@
 //! Ends with the sheet's refusal number as its status, 0 where it has none, 100 for other trouble.
 //!
 //! At the top of the repository:
-//!     rt staticlib exported
-//!     rustc --edition 2021 -O -L target/staticlib -l static=exported examples/answer.rs -o answer
+//!     bin/library
+//!     rustc --edition 2021 -O -L target/staticlib -l static=rack examples/answer.rs -o answer
 //!     ./answer crates/rack/stdin
 
 use std::fs::File;

@@ -1,4 +1,29 @@
-/* Answering a sheet of fuel oil in rail tank cars. Link with target/staticlib/libexported.a. */
+/*
+ * Fuel oil in rail tank cars: a whole sheet answered, and each of its operations by itself.
+ * Link with target/staticlib/librack.a, which bin/library writes.
+ *
+ * Every function but rack_answer_sheet hands back
+ *   0                 the operation's figures stand in the places that were lent for them;
+ *   2 to 22           the refusal of this number (README.md), the first that applies;
+ *   RACK_BAD_LENGTH   a slice has not the length that is asked for;
+ *   RACK_BAD_LETTER   a byte is no letter of a line (rack_write_line only).
+ * Beside any number but 0 nothing is written, but for what rack_train_enter says of its train.
+ *
+ * Slices: an address and how many numbers or bytes stand there. A length in the name of a constant,
+ * as [RACK_PLACES], is the only one that is taken; it is compared before anything else, and with a
+ * wrong one nothing is read or written. Every other length, 0 included, is taken.
+ * Null: no pointer may be null, not even where its length is 0, and each points to as much as is said
+ * and is aligned for its type.
+ * Overlap: what is lent to be written (no const) must not overlap anything else that is handed over.
+ * What is only read may.
+ * Threads: nothing is kept after a call and no memory is asked for, so calls from several threads at
+ * once do not disturb each other.
+ * Stack: 32,768 bytes are enough for every function; rack_answer_sheet takes about 18,000 of them, each
+ * other function less than 2,000.
+ *
+ * Units: levels in mm, capacities in dm3 at 20 C, volumes in 0.01 dm3, temperatures in 0.1 C,
+ * densities in 0.1 kg/m3, water, impurities and the share of oil in 0.01 %, masses in kg.
+ */
 #ifndef RACK_H
 #define RACK_H
 
@@ -15,6 +40,19 @@ extern "C" {
 /* Bytes that an answer buffer must have; a shorter one is refused by 1. */
 #define RACK_ANSWER_BYTES 3389
 
+/* No refusals: what is lent cannot be asked about. */
+#define RACK_BAD_LENGTH 1000
+#define RACK_BAD_LETTER 1001
+
+/* Lengths of slices: the numbers of a line, which are those of a car too; readings; tables; the places
+   of their rows, 400 for each table; the figures of a car; a train. */
+#define RACK_FIELDS 14
+#define RACK_READINGS 4
+#define RACK_TABLES 4
+#define RACK_PLACES 1600
+#define RACK_FIGURES 6
+#define RACK_TRAIN 66
+
 /*
  * Answers the sheet of `text_len` bytes at `text`. The listing is written from the start of `out`,
  * which has `out_len` bytes, and its length in bytes is returned. No zero byte is put after it:
@@ -25,14 +63,119 @@ extern "C" {
  *           turned away has a line with its own refusal;
  *   1       `out` has fewer than RACK_ANSWER_BYTES bytes: nothing is written, and 0 is returned;
  *   2 to 9  the whole sheet is refused by this number, and `out` has one line that says so.
- *
- * No pointer may be null, not even where its length is 0, and `out` and `number` must not overlap
- * each other or the sheet. Nothing is kept after the call, no memory is asked for, and calls from
- * several threads at once do not disturb each other.
  */
 size_t rack_answer_sheet(const uint8_t *text, size_t text_len,
                          uint8_t *out, size_t out_len,
                          uint32_t *number);
+
+/*
+ * Reads one line of a sheet: the byte of its letter (T, R, C or E) into `*letter`, its numbers into
+ * `numbers` [RACK_FIELDS], 0 in the places that the letter does not use. The line ends at its first
+ * line feed; bytes behind are not looked at. Refusals 3 to 6.
+ */
+uint32_t rack_read_line(const uint8_t *text, size_t text_len,
+                        uint8_t *letter,
+                        uint32_t *numbers, size_t numbers_len);
+
+/*
+ * Writes one line from the start of `out`: `letter` (T, R, C, E, A, X, S or Z) and as many of
+ * `numbers` [RACK_FIELDS] as the letter has fields; the others are not looked at. Its length in bytes
+ * goes into `*length`, and bytes past it stay as they were. RACK_BAD_LETTER, then 22.
+ */
+uint32_t rack_write_line(uint8_t letter,
+                         const uint32_t *numbers, size_t numbers_len,
+                         uint8_t *out, size_t out_len,
+                         size_t *length);
+
+/* The mean level of `count` readings, 2 or 4, of `readings` [RACK_READINGS]. Refusals 14, 15, 16. */
+uint32_t rack_mean_level(uint32_t count,
+                         const uint32_t *readings, size_t readings_len,
+                         uint32_t *level);
+
+/* The tape allowance at a level, in 0.01 mm. Refusal 16. */
+uint32_t rack_tape_allowance(uint32_t level, uint32_t *allowance);
+
+/*
+ * Whether `count` tables are turned away by 7 or 8. Table k, from 0 on, has the type types[k] and
+ * rows[k] rows, of which row i has the level levels[400 * k + i] and the capacity
+ * capacities[400 * k + i]. Lengths: `types` and `rows` [RACK_TABLES], `levels` and `capacities`
+ * [RACK_PLACES]. Places that no table uses are not looked at. The three functions below that take
+ * tables take them in this way.
+ */
+uint32_t rack_check_tables(uint32_t count,
+                           const uint32_t *types, size_t types_len,
+                           const uint32_t *rows, size_t rows_len,
+                           const uint32_t *levels, size_t levels_len,
+                           const uint32_t *capacities, size_t capacities_len);
+
+/* V0 between a water level and a mean level on the table of a type. Refusals 7, 8, 12, 16, 17. */
+uint32_t rack_checked_volume(uint32_t count,
+                             const uint32_t *types, size_t types_len,
+                             const uint32_t *rows, size_t rows_len,
+                             const uint32_t *levels, size_t levels_len,
+                             const uint32_t *capacities, size_t capacities_len,
+                             uint32_t car_type, uint32_t level, uint32_t water_level,
+                             uint32_t *volume);
+
+/* B of step 4, in 0.000000001 per C, of a density at 15 C. Refusal 19. */
+uint32_t rack_expansion_of(uint32_t density, uint32_t *expansion);
+
+/* E of step 6, in 0.0000000001, between a temperature and 15 C. Refusals 18 (200 to 900), 19. */
+uint32_t rack_factor_of(uint32_t density, uint32_t temperature, uint64_t *factor);
+
+/* The density at 20 C of a density at 15 C. Refusal 19. */
+uint32_t rack_density_at_20(uint32_t density, uint32_t *density_20);
+
+/* The same for a grade, 1 to 4. Refusals 13, 19, 21. */
+uint32_t rack_density_at_20_of_grade(uint32_t grade, uint32_t density, uint32_t *density_20);
+
+/* What is left of 10,000 beside water and impurities of a grade. Refusals 13, 20. */
+uint32_t rack_oil_share(uint32_t grade, uint32_t water, uint32_t impurities, uint32_t *share);
+
+/* The same where no grade is given. Refusal 20 (100 each). */
+uint32_t rack_oil_share_any_grade(uint32_t water, uint32_t impurities, uint32_t *share);
+
+/*
+ * A car alone. `car` [RACK_FIELDS] has the numbers of its C line in their order; `figures`
+ * [RACK_FIGURES] gets those of its A line: car number, mean level, V0, V15, gross, net.
+ * Refusals 7, 8, 10, 12 to 21.
+ */
+uint32_t rack_work_out(uint32_t count,
+                       const uint32_t *types, size_t types_len,
+                       const uint32_t *rows, size_t rows_len,
+                       const uint32_t *levels, size_t levels_len,
+                       const uint32_t *capacities, size_t capacities_len,
+                       const uint32_t *car, size_t car_len,
+                       uint32_t *figures, size_t figures_len);
+
+/*
+ * A train lies in a slice [RACK_TRAIN]: the number of accepted cars; the totals of gross and of net,
+ * each by its low and its high 32 bits; how many car numbers it holds; and sixty places for these.
+ */
+#define RACK_TRAIN_ACCEPTED 0
+#define RACK_TRAIN_GROSS 1
+#define RACK_TRAIN_GROSS_HIGH 2
+#define RACK_TRAIN_NET 3
+#define RACK_TRAIN_NET_HIGH 4
+#define RACK_TRAIN_HELD 5
+#define RACK_TRAIN_NUMBERS 6
+
+/* Makes `train` the empty train. */
+uint32_t rack_train_empty(uint32_t *train, size_t train_len);
+
+/*
+ * Enters a car in `train`, which may be any numbers, with its tables. `figures` as in rack_work_out.
+ * Refusals 7 to 21. With 0, or a refusal from 12 on, `train` holds the car's number, and with 0 its
+ * masses are in the totals; with any other number `train` stays as it was.
+ */
+uint32_t rack_train_enter(uint32_t *train, size_t train_len,
+                          uint32_t count,
+                          const uint32_t *types, size_t types_len,
+                          const uint32_t *rows, size_t rows_len,
+                          const uint32_t *levels, size_t levels_len,
+                          const uint32_t *capacities, size_t capacities_len,
+                          const uint32_t *car, size_t car_len,
+                          uint32_t *figures, size_t figures_len);
 
 #ifdef __cplusplus
 }

@@ -1,7 +1,8 @@
-//! The library as a caller meets it: the conformance sheets, and buffers that are too short.
+//! The library as a caller meets it: the conformance sheets, buffers that are too short, and the
+//! constants of its header.
 
 use outside::answer_sheet;
-use reference::{conformance, ANSWER_BYTES};
+use reference::{conformance, ANSWER_BYTES, SHEET_BYTES};
 
 #[test]
 fn conformance_sheets() {
@@ -19,5 +20,25 @@ fn every_buffer_that_is_too_short_is_left_alone() {
         let mut answer = vec![0xa5; length];
         assert_eq!(answer_sheet(b"", &mut answer), (0, 1));
         assert!(answer.iter().all(|&byte| byte == 0xa5));
+    }
+}
+
+#[test]
+fn constants_of_the_header() {
+    let header = include_str!("../../include/rack.h");
+    let constants = [
+        ("SHEET_BYTES", SHEET_BYTES),
+        ("ANSWER_BYTES", ANSWER_BYTES),
+        ("BAD_LENGTH", outside::BAD_LENGTH as usize),
+        ("BAD_LETTER", outside::BAD_LETTER as usize),
+        ("FIELDS", outside::FIELDS),
+        ("READINGS", outside::READINGS),
+        ("TABLES", outside::TABLES),
+        ("PLACES", outside::PLACES),
+        ("FIGURES", outside::FIGURES),
+        ("TRAIN", outside::TRAIN),
+    ];
+    for (name, value) in constants {
+        assert!(header.contains(&format!("#define RACK_{name} {value}\n")), "{name}");
     }
 }

@@ -1,20 +1,26 @@
-//! Times the proved code beside the reference on the same sheets, in one run of a few seconds.
+//! Times the proved code beside the reference and beside a program tuned by hand, on the same
+//! sheets, in one run of a few seconds.
 
 use std::hint::black_box;
 use std::time::{Duration, Instant};
 
 use reference::{sheets, ANSWER_BYTES, SHEET_BYTES};
 
-/// Rounds of both programs by turns; the median of each counts.
-const ROUNDS: usize = 15;
+/// Rounds of the programs by turns; the least time of each counts, which other work on the machine
+/// disturbs least.
+const ROUNDS: usize = 300;
 
 /// About how long one round of one program lasts.
-const ROUND_TIME: Duration = Duration::from_millis(12);
+const ROUND_TIME: Duration = Duration::from_millis(1);
 
 /// The sheet printed in the rules.
 const SMALL: &[u8] = include_bytes!("../../../crates/rack/stdin");
 
 type Program = fn(&[u8], &mut [u8]) -> (usize, u32);
+
+/// The proved code, and the two beside which it is set.
+const PROGRAMS: [Program; 3] =
+    [outside::answer_sheet, reference::answer_sheet, outside::tuned::answer_sheet];
 
 fn main() {
     let full: Vec<Vec<u8>> = (0..8).map(sheets::full_sheet).collect();
@@ -22,9 +28,15 @@ fn main() {
     let half: Vec<Vec<u8>> = full.iter().map(|sheet| half_of(sheet)).collect();
     let refused: Vec<Vec<u8>> = full.iter().map(|sheet| with_wrong_end(sheet)).collect();
 
-    println!("Nanoseconds for one sheet, median of {ROUNDS} rounds by turns.");
+    println!(
+        "Nanoseconds for one sheet, least of {ROUNDS} rounds by turns, and the proved code's time"
+    );
+    println!("as a multiple of the reference's and of the tuned program's.");
     println!("Each program has one answer buffer, which is not cleared between sheets.");
-    println!("{:42} {:>9} {:>9} {:>9} {:>7}", "sheet", "bytes", "proved", "reference", "ratio");
+    println!(
+        "{:42} {:>6} {:>8} {:>9} {:>8} {:>11} {:>7}",
+        "sheet", "bytes", "proved", "reference", "tuned", "/ reference", "/ tuned"
+    );
     compare("small, the rules' own", &[SMALL.to_vec()], 0);
     compare("half the length, 8 in turn", &half, 0);
     compare("full, 60 cars accepted, 8 in turn", &full, 0);
@@ -34,31 +46,42 @@ fn main() {
 /// Prints the line of some sheets, all of which hand back the same number.
 fn compare(name: &str, sheets: &[Vec<u8>], number: u32) {
     for sheet in sheets {
-        let mut answer = [0; ANSWER_BYTES];
-        assert_eq!(outside::answer_sheet(sheet, &mut answer).1, number);
-        assert_eq!(reference::answer_sheet(sheet, &mut answer).1, number);
+        let answers = PROGRAMS.map(|program| answered(program, sheet));
+        assert_eq!(answers[0].1, number);
+        assert!(answers.iter().all(|answer| *answer == answers[0]), "{name}: answers differ");
     }
     let passes = passes_of_a_round(sheets);
-    let mut proved = Vec::new();
-    let mut expected = Vec::new();
+    let mut least = [f64::MAX; PROGRAMS.len()];
     for _ in 0..ROUNDS {
-        proved.push(nanoseconds(outside::answer_sheet, sheets, passes));
-        expected.push(nanoseconds(reference::answer_sheet, sheets, passes));
+        for (time, program) in least.iter_mut().zip(PROGRAMS) {
+            *time = time.min(nanoseconds(program, sheets, passes));
+        }
     }
-    let (proved, expected) = (median(proved), median(expected));
+    let [proved, expected, tuned] = least;
     let bytes = sheets.iter().map(Vec::len).sum::<usize>() / sheets.len();
-    let ratio = proved / expected;
-    println!("{name:42} {bytes:>9} {proved:>9.0} {expected:>9.0} {ratio:>7.2}");
+    println!(
+        "{name:42} {bytes:>6} {proved:>8.0} {expected:>9.0} {tuned:>8.0} {:>11.2} {:>7.2}",
+        proved / expected,
+        proved / tuned
+    );
 }
 
-/// How often a round goes through the sheets; finding it warms both programs up.
+/// The length, the number handed back, and the buffer.
+fn answered(program: Program, sheet: &[u8]) -> (usize, u32, [u8; ANSWER_BYTES]) {
+    let mut answer = [0; ANSWER_BYTES];
+    let (length, number) = program(sheet, &mut answer);
+    (length, number, answer)
+}
+
+/// How often a round goes through the sheets; finding it warms the programs up.
 fn passes_of_a_round(sheets: &[Vec<u8>]) -> u32 {
     let mut passes = 1;
     loop {
         let start = Instant::now();
-        nanoseconds(outside::answer_sheet, sheets, passes);
-        nanoseconds(reference::answer_sheet, sheets, passes);
-        if start.elapsed() >= 2 * ROUND_TIME {
+        for program in PROGRAMS {
+            nanoseconds(program, sheets, passes);
+        }
+        if start.elapsed() >= PROGRAMS.len() as u32 * ROUND_TIME {
             return passes;
         }
         passes *= 2;
@@ -75,11 +98,6 @@ fn nanoseconds(program: Program, sheets: &[Vec<u8>], passes: u32) -> f64 {
         }
     }
     start.elapsed().as_nanos() as f64 / f64::from(passes) / sheets.len() as f64
-}
-
-fn median(mut times: Vec<f64>) -> f64 {
-    times.sort_by(f64::total_cmp);
-    times[times.len() / 2]
 }
 
 /// The first two tables of a full sheet, with thirty cars: the first two tables' own, and others

@@ -3,6 +3,7 @@
 
 use std::process::ExitCode;
 
+use outside::random::mix;
 use reference::{sheets, ANSWER_BYTES};
 
 /// Sheets that are compared where the caller names no count.
@@ -76,14 +77,6 @@ fn room(seed: u64) -> usize {
         2..=5 => ANSWER_BYTES + (drawn >> 8) % 5_000,
         _ => ANSWER_BYTES,
     }
-}
-
-/// A number that looks drawn by lot, the same for the same seed.
-fn mix(seed: u64) -> u64 {
-    let mut bits = seed.wrapping_add(0x9e37_79b9_7f4a_7c15);
-    bits = (bits ^ (bits >> 30)).wrapping_mul(0xbf58_476d_1ce4_e5b9);
-    bits = (bits ^ (bits >> 27)).wrapping_mul(0x94d0_49bb_1331_11eb);
-    bits ^ (bits >> 31)
 }
 
 fn report_difference(seed: u64, sheet: &[u8], proved: &Outcome, expected: &Outcome) {

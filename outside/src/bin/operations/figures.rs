@@ -1,0 +1,151 @@
+//! Operations that answer one figure from numbers: every value near a bound, then every value that
+//! can be accepted, or numbers by lot.
+
+use outside::random::Random;
+use outside::{BAD_LENGTH, READINGS};
+use reference::{level, operations};
+
+use crate::tally::{handed, Tally, LENT};
+
+/// Numbers at the ends of fields and of words.
+pub const ENDS: [u32; 8] =
+    [0, 1, 99_999_998, 99_999_999, 100_000_000, 1 << 31, u32::MAX - 1, u32::MAX];
+
+/// The ends, then a range.
+fn ends_and(range: std::ops::RangeInclusive<u32>) -> impl Iterator<Item = u32> + Clone {
+    ENDS.into_iter().chain(range)
+}
+
+pub fn tape_allowance() -> Tally {
+    let mut tally = Tally::new("tape_allowance");
+    for level in ends_and(0..=40_000) {
+        let mut allowance = LENT;
+        let number = outside::tape_allowance(level, &mut allowance);
+        tally.compare(level, (number, allowance), handed(level::tape_allowance(level), LENT));
+    }
+    tally
+}
+
+pub fn expansion_of() -> Tally {
+    let mut tally = Tally::new("expansion_of");
+    for density in ends_and(0..=20_000) {
+        let mut expansion = LENT;
+        let number = outside::expansion_of(density, &mut expansion);
+        let expected = operations::coefficient(density).map(|figure| figure as u32);
+        tally.compare(density, (number, expansion), handed(expected, LENT));
+    }
+    tally
+}
+
+pub fn factor_of() -> Tally {
+    let mut tally = Tally::new("factor_of");
+    for temperature in ends_and(199..=901) {
+        for density in ends_and(8_999..=9_901) {
+            let mut factor = u64::from(LENT);
+            let number = outside::factor_of(density, temperature, &mut factor);
+            let expected = operations::contraction(density, temperature);
+            tally.compare(
+                (density, temperature),
+                (number, factor),
+                handed(expected, u64::from(LENT)),
+            );
+        }
+    }
+    tally
+}
+
+pub fn density_at_20() -> Tally {
+    let mut tally = Tally::new("density_at_20");
+    for density in ends_and(0..=20_000) {
+        let mut density_20 = LENT;
+        let number = outside::density_at_20(density, &mut density_20);
+        let expected = operations::density_at_20(density).map(|figure| figure.0);
+        tally.compare(density, (number, density_20), handed(expected, LENT));
+    }
+    tally
+}
+
+pub fn density_at_20_of_grade() -> Tally {
+    let mut tally = Tally::new("density_at_20_of_grade");
+    for grade in ends_and(2..=6) {
+        for density in ends_and(0..=11_000) {
+            let mut density_20 = LENT;
+            let number = outside::density_at_20_of_grade(grade, density, &mut density_20);
+            let expected =
+                operations::density_at_20_of_grade(grade, density).map(|figure| figure.0);
+            tally.compare((grade, density), (number, density_20), handed(expected, LENT));
+        }
+    }
+    tally
+}
+
+/// Water and impurities near every limit, and near all of the oil.
+fn contents() -> impl Iterator<Item = u32> + Clone {
+    ends_and(0..=110).chain(9_890..=10_010)
+}
+
+pub fn oil_share() -> Tally {
+    let mut tally = Tally::new("oil_share");
+    for grade in ends_and(2..=6) {
+        for water in contents() {
+            for impurities in contents() {
+                let mut share = LENT;
+                let number = outside::oil_share(grade, water, impurities, &mut share);
+                let expected = operations::oil_share_of_grade(grade, water, impurities);
+                tally.compare((grade, water, impurities), (number, share), handed(expected, LENT));
+            }
+        }
+    }
+    tally
+}
+
+pub fn oil_share_any_grade() -> Tally {
+    let mut tally = Tally::new("oil_share_any_grade");
+    for water in contents() {
+        for impurities in contents() {
+            let mut share = LENT;
+            let number = outside::oil_share_any_grade(water, impurities, &mut share);
+            let expected = operations::oil_share(water, impurities);
+            tally.compare((water, impurities), (number, share), handed(expected, LENT));
+        }
+    }
+    tally
+}
+
+/// Compares a number of readings and a slice of them, of any length.
+fn compare_mean(tally: &mut Tally, count: u32, readings: &[u32]) {
+    let mut level = LENT;
+    let number = outside::mean_level(count, readings, &mut level);
+    let expected = match readings.try_into() {
+        Ok(four) => handed(level::mean(count, four), LENT),
+        Err(_) => (BAD_LENGTH, LENT),
+    };
+    tally.compare((count, readings), (number, level), expected);
+}
+
+pub fn mean_level(times: u64) -> Tally {
+    let mut tally = Tally::new("mean_level");
+    let mut random = Random::new(1);
+    for length in (0..=9).filter(|&length| length != READINGS) {
+        compare_mean(&mut tally, 2, &vec![7; length]);
+    }
+    let near = [0, 1, 2, 3, 1_500, 1_501, 1_502, 1_503, 99_999_999, u32::MAX - 1, u32::MAX];
+    for count in [2, 4, 0, 1, 3, 5, u32::MAX] {
+        for place in 0..near.len().pow(4) {
+            let readings =
+                [0, 1, 2, 3].map(|power| near[place / near.len().pow(power) % near.len()]);
+            compare_mean(&mut tally, count, &readings);
+        }
+    }
+    for _ in 0..times {
+        let low = random.pick(&[0, 1, 1_500, 3_590, 99_999_990, u32::MAX - 9]);
+        let spread = random.between(1, 9);
+        let mut readings = [(); 4].map(|()| random.between(low, low + spread));
+        let count = random.pick(&[2, 4]);
+        if count == 2 && !random.one_in(8) {
+            readings[2..].fill(0);
+        }
+        compare_mean(&mut tally, count, &readings);
+    }
+    tally
+}

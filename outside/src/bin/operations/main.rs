@@ -1,0 +1,47 @@
+//! Asks every exported operation but the sheet and the reference the same, edge values first, and
+//! compares the number handed back and all that is lent: `operations [TIMES]`, with so many inputs
+//! by lot for each operation that has some. Ends with status 1 at the first difference.
+
+mod cars;
+mod figures;
+mod lines;
+mod tables;
+mod tally;
+
+use std::process::ExitCode;
+
+/// Inputs by lot where the caller names no count.
+const TIMES: u64 = 200_000;
+
+fn main() -> ExitCode {
+    let arguments: Vec<String> = std::env::args().skip(1).collect();
+    let times = match &arguments[..] {
+        [] => Some(TIMES),
+        [times] => times.parse().ok(),
+        _ => None,
+    };
+    let Some(times) = times else {
+        eprintln!("usage: operations [TIMES]");
+        return ExitCode::from(2);
+    };
+
+    let inputs = [
+        lines::read_line(times).print(),
+        lines::write_line(times).print(),
+        figures::mean_level(times).print(),
+        figures::tape_allowance().print(),
+        tables::check_tables(times).print(),
+        tables::checked_volume(times).print(),
+        figures::expansion_of().print(),
+        figures::factor_of().print(),
+        figures::density_at_20().print(),
+        figures::density_at_20_of_grade().print(),
+        figures::oil_share().print(),
+        figures::oil_share_any_grade().print(),
+        cars::work_out(times).print(),
+        cars::train_empty().print(),
+        cars::train_enter(times).print(),
+    ];
+    println!("{} inputs answered alike, numbers and all that is lent", inputs.iter().sum::<u64>());
+    ExitCode::SUCCESS
+}
