@@ -1,17 +1,18 @@
 -- Laws of `outside`, and of `member` over the first elements of a list, as a loop passes them.
-use Prim.Native.Nat.{ℕ, _+_, _≤_, _<_}
+use Prim.Native.Nat.{ℕ, _+_, _≤_, _<_, min}
 use mathlib.Core.Path.{_≡_, ap, sym, _∙_}
 use mathlib.Core.Bool.{Bool, true, false, _||_, or-false, or-true, or-assoc}
+use mathlib.Core.Logic.{⊎-elim}
 use mathlib.Core.List.{List, [], _∷_, _++_}
-use native.Mathlib.Nat.{min-le-left}
+use native.Mathlib.Nat.{min-eq-left, min-eq-right}
 use native.Mathlib.Numerals.{add-one}
 use native.Mathlib.Omega.{arith}
-use lib.ListN.{length, getD, take, length-take}
-use lib.Seq.{take-suc, take-all}
+use lib.ListN.{length, getD, take}
+use lib.Seq.{take-suc, take-all, take-length}
 use lib.Dec.{eqb}
 use borrow.Author.Tests.{eq-eqb, ne-eqb, ltb-false}
 use Rattle.base.specs.Numbers.{outside, member}
-use Rattle.base.proofs.Choice.{neither}
+use Rattle.base.proofs.Choice.{below, neither}
 
 -- a number that is not outside is inside
 pub inside : (low high n : ℕ) → outside low high n ≡ false → (low ≤ n) × (n ≤ high)
@@ -32,6 +33,10 @@ module _ (x : ℕ) (l : List ℕ) (i : ℕ) (h : i < length l) where
   pub member-miss : {t : Bool} → (getD l i 0 ≡ x → ⊥) → t ≡ member x (take i l) → t ≡ member x (take (i + 1) l)
   member-miss n e = e ∙ sym (member-more ∙ ap (λ (t : Bool). member x (take i l) || t) (ne-eqb (getD l i 0) x n) ∙ or-false (member x (take i l)))
 
--- the first n are all passed
-pub take-past : (n i : ℕ) (l : List ℕ) → n ≤ i → take i (take n l) ≡ take n l
-take-past n i l h = take-all i (take n l) (omega (arith, length-take n l, min-le-left n (length l)))
+-- as many as there are, of the first n
+pub take-lesser : (n : ℕ) (l : List ℕ) → take (min n (length l)) l ≡ take n l
+take-lesser n l =
+    ⊎-elim
+    (λ (h : n < length l). let le : n ≤ length l = omega arith in ap (λ (k : ℕ). take k l) (min-eq-left le))
+    (λ (h : length l ≤ n). ap (λ (k : ℕ). take k l) (min-eq-right h) ∙ take-length l ∙ sym (take-all n l h))
+    (below n (length l))

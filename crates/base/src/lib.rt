@@ -1,5 +1,6 @@
-// What every other crate stands on: R of document 01, a number widened with its bound, a search, and the limits.
+// What every other crate stands on: R of document 01, a number widened with its bound, the lesser of two, a search, and the limits.
 ghost use mathlib.Core.Path.{_≡_};
+ghost use Prim.Native.Nat.{min};
 ghost use lib.ListN.{take};
 ghost use Rattle.base.specs.Rounding.{rounded};
 ghost use Rattle.base.specs.Numbers.{Wide, member};
@@ -36,17 +37,22 @@ pub fn wide(x: u32) -> u64
     x as u64
 }
 
+pub fn lesser(a: usize, b: usize) -> usize
+    ensures { λ r. ⌜ r ≡ min a b ⌝ }
+{
+    if a < b { a } else { b }
+}
+
 // Whether x is among the first n numbers, or among all where there are fewer.
 pub fn holds(numbers: &[u32], n: usize, x: u32) -> bool
     ensures { λ r. ⌜ r ≡ member x (take n (now (numbers .entry))) ⌝ }
 {
+    let last = lesser(n, numbers.len());
     let mut found = false;
     let mut i = 0;
-    while i < numbers.len() {
-        if i < n {
-            if numbers[i] == x {
-                found = true;
-            }
+    while i < last {
+        if numbers[i] == x {
+            found = true;
         }
         i += 1;
     }

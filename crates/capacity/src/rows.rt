@@ -7,6 +7,7 @@ ghost use Rattle.table.specs.Layout.{places};
 ghost use Rattle.capacity.specs.Capacity.{interpolated};
 ghost use Rattle.capacity.specs.Inner.{gapAt, Between, Reaches, RowBelow};
 use base::LEVEL_UNITS;
+use base::lesser;
 use table::PLACES;
 
 // A level in mm, in units.
@@ -21,12 +22,6 @@ pub fn least_mm(level: u32) -> u32
     ensures { λ r. ⌜ Reaches level r ⌝ }
 {
     ((level as u64 + LEVEL_UNITS as u64 - 1) / LEVEL_UNITS as u64) as u32
-}
-
-fn lesser(a: usize, b: usize) -> usize
-    ensures { λ r. ⌜ r ≡ min a b ⌝ }
-{
-    if a < b { a } else { b }
 }
 
 // Of the rows `step` apart from `low` up to `last`, the last that does not reach `reach` mm; `low` where each after it does. The

@@ -1,4 +1,5 @@
 pub mod Card
+pub mod OperationsCard
 pub mod ExactCard
 pub mod Accepted
 pub mod Masses

@@ -2,7 +2,8 @@
 -- statement covers. A car stands by the fourteen numbers of its C line.
 use Prim.Native.Nat.{ℕ}
 use mathlib.Core.Path.{_≡_}
-use mathlib.Core.List.{List, [], _∷_}
+use mathlib.Core.List.{List, [], _∷_, _++_}
+use lib.ListN.{take, drop}
 use Rattle.base.specs.Limits.{inUnits}
 use Rattle.base.specs.Answer.{Answer, figures, refusal}
 use Rattle.base.specs.Lists.{Each}
@@ -29,10 +30,10 @@ cardTables =
     ∷ []
 
 -- a table that 7 turns away, and one that 8 does
-abbrev badType : Table
+abbrev pub badType : Table
 badType = record { kind = 0; rows = record { level = 0; capacity = 0 } ∷ record { level = 1; capacity = 1 } ∷ [] }
 
-abbrev badRow : Table
+abbrev pub badRow : Table
 badRow = record { kind = 1; rows = record { level = 0; capacity = 0 } ∷ record { level = 0; capacity = 1 } ∷ [] }
 
 -- what the rules give, and what the card says
@@ -40,7 +41,7 @@ pub record Figure : Type 0 where
   pub reckoned : Answer
   pub card : Answer
 
-abbrev gives : Answer → Answer → Figure
+abbrev pub gives : Answer → Answer → Figure
 gives a b = record { reckoned = a; card = b }
 
 -- a car alone shows six figures, passes, or is refused
@@ -57,6 +58,26 @@ passes ns = gives (withoutFigures (aloneAnswer cardTables (carOf ns))) (figures 
 abbrev refused : ℕ → List ℕ → Figure
 refused n ns = gives (aloneAnswer cardTables (carOf ns)) (refusal n)
 
+-- the first car of document 01's sheet
+abbrev firstCar : List ℕ
+firstCar = 50_000_001 ∷ 1 ∷ 3 ∷ 1 ∷ 2 ∷ 1_500 ∷ 1_500 ∷ 0 ∷ 0 ∷ 0 ∷ 600 ∷ 9_500 ∷ 50 ∷ 20 ∷ []
+
+-- with another number
+abbrev withNumber : ℕ → List ℕ
+withNumber number = number ∷ drop 1 firstCar
+
+-- with another type, grade and stick
+abbrev withCodes : ℕ → ℕ → ℕ → List ℕ
+withCodes kind grade stick = take 1 firstCar ++ (kind ∷ grade ∷ stick ∷ drop 4 firstCar)
+
+-- with another number of readings, four other readings and water level, in mm
+abbrev withDip : ℕ → ℕ → ℕ → ℕ → ℕ → ℕ → List ℕ
+withDip count a b c d water = take 4 firstCar ++ (count ∷ a ∷ b ∷ c ∷ d ∷ water ∷ drop 10 firstCar)
+
+-- with another grade, temperature, density at 15 °C, water and impurities
+abbrev withOil : ℕ → ℕ → ℕ → ℕ → ℕ → List ℕ
+withOil grade t r w i = take 10 (withCodes 1 grade 1) ++ (t ∷ r ∷ w ∷ i ∷ [])
+
 unfoldable pub card : List Figure
 card =
     -- B, X, E at 60 °C and the density at 20 °C of the first car's oil; Vt with either stick; the capacity at 1 mm; the tape allowance
@@ -70,109 +91,109 @@ card =
     ∷ gives (allowanceAnswer (inUnits 1_000)) (figures (30 ∷ []))
     ∷ gives (allowanceAnswer (inUnits 1_001)) (figures (45 ∷ []))
     -- the first car; with an aluminium stick; the closest three of four readings, upper, lower, and the lower of two triples as close; a half going up; a full car
-    ∷ shows (50_000_001 ∷ 1 ∷ 3 ∷ 1 ∷ 2 ∷ 1_500 ∷ 1_500 ∷ 0 ∷ 0 ∷ 0 ∷ 600 ∷ 9_500 ∷ 50 ∷ 20 ∷ []) (50_000_001 ∷ 1_500 ∷ 3_500_000 ∷ 3_392_515 ∷ 32_229 ∷ 32_003 ∷ [])
-    ∷ shows (50_000_001 ∷ 1 ∷ 3 ∷ 2 ∷ 2 ∷ 1_500 ∷ 1_500 ∷ 0 ∷ 0 ∷ 0 ∷ 600 ∷ 9_500 ∷ 50 ∷ 20 ∷ []) (50_000_001 ∷ 1_500 ∷ 3_500_000 ∷ 3_393_937 ∷ 32_242 ∷ 32_016 ∷ [])
-    ∷ shows (50_000_001 ∷ 1 ∷ 3 ∷ 1 ∷ 4 ∷ 1_500 ∷ 1_504 ∷ 1_501 ∷ 1_502 ∷ 0 ∷ 600 ∷ 9_500 ∷ 50 ∷ 20 ∷ []) (50_000_001 ∷ 1_501 ∷ 3_503_000 ∷ 3_395_423 ∷ 32_257 ∷ 32_031 ∷ [])
-    ∷ shows (50_000_001 ∷ 1 ∷ 3 ∷ 1 ∷ 4 ∷ 1_500 ∷ 1_503 ∷ 1_503 ∷ 1_502 ∷ 0 ∷ 600 ∷ 9_500 ∷ 50 ∷ 20 ∷ []) (50_000_001 ∷ 1_503 ∷ 3_509_000 ∷ 3_401_238 ∷ 32_312 ∷ 32_086 ∷ [])
-    ∷ shows (50_000_001 ∷ 1 ∷ 3 ∷ 1 ∷ 4 ∷ 1_500 ∷ 1_503 ∷ 1_501 ∷ 1_502 ∷ 0 ∷ 600 ∷ 9_500 ∷ 50 ∷ 20 ∷ []) (50_000_001 ∷ 1_501 ∷ 3_503_000 ∷ 3_395_423 ∷ 32_257 ∷ 32_031 ∷ [])
-    ∷ shows (50_000_001 ∷ 1 ∷ 3 ∷ 1 ∷ 2 ∷ 1_500 ∷ 1_501 ∷ 0 ∷ 0 ∷ 0 ∷ 600 ∷ 9_500 ∷ 50 ∷ 20 ∷ []) (50_000_001 ∷ 1_501 ∷ 3_503_000 ∷ 3_395_423 ∷ 32_257 ∷ 32_031 ∷ [])
-    ∷ shows (50_000_001 ∷ 1 ∷ 3 ∷ 1 ∷ 2 ∷ 3_000 ∷ 3_000 ∷ 0 ∷ 0 ∷ 0 ∷ 600 ∷ 9_500 ∷ 50 ∷ 20 ∷ []) (50_000_001 ∷ 3_000 ∷ 7_000_000 ∷ 6_785_030 ∷ 64_458 ∷ 64_007 ∷ [])
+    ∷ shows firstCar (50_000_001 ∷ 1_500 ∷ 3_500_000 ∷ 3_392_515 ∷ 32_229 ∷ 32_003 ∷ [])
+    ∷ shows (withCodes 1 3 2) (50_000_001 ∷ 1_500 ∷ 3_500_000 ∷ 3_393_937 ∷ 32_242 ∷ 32_016 ∷ [])
+    ∷ shows (withDip 4 1_500 1_504 1_501 1_502 0) (50_000_001 ∷ 1_501 ∷ 3_503_000 ∷ 3_395_423 ∷ 32_257 ∷ 32_031 ∷ [])
+    ∷ shows (withDip 4 1_500 1_503 1_503 1_502 0) (50_000_001 ∷ 1_503 ∷ 3_509_000 ∷ 3_401_238 ∷ 32_312 ∷ 32_086 ∷ [])
+    ∷ shows (withDip 4 1_500 1_503 1_501 1_502 0) (50_000_001 ∷ 1_501 ∷ 3_503_000 ∷ 3_395_423 ∷ 32_257 ∷ 32_031 ∷ [])
+    ∷ shows (withDip 2 1_500 1_501 0 0 0) (50_000_001 ∷ 1_501 ∷ 3_503_000 ∷ 3_395_423 ∷ 32_257 ∷ 32_031 ∷ [])
+    ∷ shows (withDip 2 3_000 3_000 0 0 0) (50_000_001 ∷ 3_000 ∷ 7_000_000 ∷ 6_785_030 ∷ 64_458 ∷ 64_007 ∷ [])
     -- water under the oil: net of the gross as shown, and the light and the dense end of 19
     ∷ shows (50_000_001 ∷ 1 ∷ 3 ∷ 1 ∷ 2 ∷ 1_500 ∷ 1_500 ∷ 0 ∷ 0 ∷ 500 ∷ 900 ∷ 9_000 ∷ 50 ∷ 20 ∷ []) (50_000_001 ∷ 1_500 ∷ 2_500_000 ∷ 2_361_466 ∷ 21_253 ∷ 21_104 ∷ [])
     ∷ shows (50_000_001 ∷ 1 ∷ 3 ∷ 1 ∷ 2 ∷ 1_500 ∷ 1_500 ∷ 0 ∷ 0 ∷ 500 ∷ 400 ∷ 9_900 ∷ 50 ∷ 20 ∷ []) (50_000_001 ∷ 1_500 ∷ 2_500_000 ∷ 2_459_631 ∷ 24_350 ∷ 24_180 ∷ [])
     -- 10
-    ∷ refused 10 (0 ∷ 1 ∷ 3 ∷ 1 ∷ 2 ∷ 1_500 ∷ 1_500 ∷ 0 ∷ 0 ∷ 0 ∷ 600 ∷ 9_500 ∷ 50 ∷ 20 ∷ [])
-    ∷ passes (1 ∷ 1 ∷ 3 ∷ 1 ∷ 2 ∷ 1_500 ∷ 1_500 ∷ 0 ∷ 0 ∷ 0 ∷ 600 ∷ 9_500 ∷ 50 ∷ 20 ∷ [])
-    ∷ passes (99_999_999 ∷ 1 ∷ 3 ∷ 1 ∷ 2 ∷ 1_500 ∷ 1_500 ∷ 0 ∷ 0 ∷ 0 ∷ 600 ∷ 9_500 ∷ 50 ∷ 20 ∷ [])
-    ∷ refused 10 (100_000_000 ∷ 1 ∷ 3 ∷ 1 ∷ 2 ∷ 1_500 ∷ 1_500 ∷ 0 ∷ 0 ∷ 0 ∷ 600 ∷ 9_500 ∷ 50 ∷ 20 ∷ [])
+    ∷ refused 10 (withNumber 0)
+    ∷ passes (withNumber 1)
+    ∷ passes (withNumber 99_999_999)
+    ∷ refused 10 (withNumber 100_000_000)
     -- 12
-    ∷ refused 12 (50_000_001 ∷ 0 ∷ 3 ∷ 1 ∷ 2 ∷ 1_500 ∷ 1_500 ∷ 0 ∷ 0 ∷ 0 ∷ 600 ∷ 9_500 ∷ 50 ∷ 20 ∷ [])
-    ∷ refused 12 (50_000_001 ∷ 2 ∷ 3 ∷ 1 ∷ 2 ∷ 1_500 ∷ 1_500 ∷ 0 ∷ 0 ∷ 0 ∷ 600 ∷ 9_500 ∷ 50 ∷ 20 ∷ [])
+    ∷ refused 12 (withCodes 0 3 1)
+    ∷ refused 12 (withCodes 2 3 1)
     -- 13
-    ∷ refused 13 (50_000_001 ∷ 1 ∷ 0 ∷ 1 ∷ 2 ∷ 1_500 ∷ 1_500 ∷ 0 ∷ 0 ∷ 0 ∷ 600 ∷ 9_500 ∷ 50 ∷ 20 ∷ [])
-    ∷ passes (50_000_001 ∷ 1 ∷ 1 ∷ 1 ∷ 2 ∷ 1_500 ∷ 1_500 ∷ 0 ∷ 0 ∷ 0 ∷ 600 ∷ 9_500 ∷ 30 ∷ 10 ∷ [])
-    ∷ passes (50_000_001 ∷ 1 ∷ 2 ∷ 1 ∷ 2 ∷ 1_500 ∷ 1_500 ∷ 0 ∷ 0 ∷ 0 ∷ 600 ∷ 9_500 ∷ 30 ∷ 12 ∷ [])
-    ∷ passes (50_000_001 ∷ 1 ∷ 4 ∷ 1 ∷ 2 ∷ 1_500 ∷ 1_500 ∷ 0 ∷ 0 ∷ 0 ∷ 600 ∷ 9_500 ∷ 50 ∷ 20 ∷ [])
-    ∷ refused 13 (50_000_001 ∷ 1 ∷ 5 ∷ 1 ∷ 2 ∷ 1_500 ∷ 1_500 ∷ 0 ∷ 0 ∷ 0 ∷ 600 ∷ 9_500 ∷ 50 ∷ 20 ∷ [])
-    ∷ refused 13 (50_000_001 ∷ 1 ∷ 3 ∷ 0 ∷ 2 ∷ 1_500 ∷ 1_500 ∷ 0 ∷ 0 ∷ 0 ∷ 600 ∷ 9_500 ∷ 50 ∷ 20 ∷ [])
-    ∷ passes (50_000_001 ∷ 1 ∷ 3 ∷ 2 ∷ 2 ∷ 1_500 ∷ 1_500 ∷ 0 ∷ 0 ∷ 0 ∷ 600 ∷ 9_500 ∷ 50 ∷ 20 ∷ [])
-    ∷ refused 13 (50_000_001 ∷ 1 ∷ 3 ∷ 3 ∷ 2 ∷ 1_500 ∷ 1_500 ∷ 0 ∷ 0 ∷ 0 ∷ 600 ∷ 9_500 ∷ 50 ∷ 20 ∷ [])
+    ∷ refused 13 (withCodes 1 0 1)
+    ∷ passes (withOil 1 600 9_500 30 10)
+    ∷ passes (withOil 2 600 9_500 30 12)
+    ∷ passes (withCodes 1 4 1)
+    ∷ refused 13 (withCodes 1 5 1)
+    ∷ refused 13 (withCodes 1 3 0)
+    ∷ passes (withCodes 1 3 2)
+    ∷ refused 13 (withCodes 1 3 3)
     -- 14: with two given both others must be 0; with four given and the first two agreeing the others may be any
-    ∷ refused 14 (50_000_001 ∷ 1 ∷ 3 ∷ 1 ∷ 1 ∷ 1_500 ∷ 1_500 ∷ 0 ∷ 0 ∷ 0 ∷ 600 ∷ 9_500 ∷ 50 ∷ 20 ∷ [])
-    ∷ refused 14 (50_000_001 ∷ 1 ∷ 3 ∷ 1 ∷ 3 ∷ 1_500 ∷ 1_500 ∷ 0 ∷ 0 ∷ 0 ∷ 600 ∷ 9_500 ∷ 50 ∷ 20 ∷ [])
-    ∷ refused 14 (50_000_001 ∷ 1 ∷ 3 ∷ 1 ∷ 5 ∷ 1_500 ∷ 1_500 ∷ 0 ∷ 0 ∷ 0 ∷ 600 ∷ 9_500 ∷ 50 ∷ 20 ∷ [])
-    ∷ refused 14 (50_000_001 ∷ 1 ∷ 3 ∷ 1 ∷ 2 ∷ 1_500 ∷ 1_500 ∷ 1 ∷ 0 ∷ 0 ∷ 600 ∷ 9_500 ∷ 50 ∷ 20 ∷ [])
-    ∷ refused 14 (50_000_001 ∷ 1 ∷ 3 ∷ 1 ∷ 2 ∷ 1_500 ∷ 1_500 ∷ 0 ∷ 1 ∷ 0 ∷ 600 ∷ 9_500 ∷ 50 ∷ 20 ∷ [])
-    ∷ passes (50_000_001 ∷ 1 ∷ 3 ∷ 1 ∷ 4 ∷ 1_500 ∷ 1_500 ∷ 0 ∷ 99_999_999 ∷ 0 ∷ 600 ∷ 9_500 ∷ 50 ∷ 20 ∷ [])
+    ∷ refused 14 (withDip 1 1_500 1_500 0 0 0)
+    ∷ refused 14 (withDip 3 1_500 1_500 0 0 0)
+    ∷ refused 14 (withDip 5 1_500 1_500 0 0 0)
+    ∷ refused 14 (withDip 2 1_500 1_500 1 0 0)
+    ∷ refused 14 (withDip 2 1_500 1_500 0 1 0)
+    ∷ passes (withDip 4 1_500 1_500 0 99_999_999 0)
     -- 15, for two readings only
-    ∷ passes (50_000_001 ∷ 1 ∷ 3 ∷ 1 ∷ 2 ∷ 1_500 ∷ 1_501 ∷ 0 ∷ 0 ∷ 0 ∷ 600 ∷ 9_500 ∷ 50 ∷ 20 ∷ [])
-    ∷ passes (50_000_001 ∷ 1 ∷ 3 ∷ 1 ∷ 2 ∷ 1_501 ∷ 1_500 ∷ 0 ∷ 0 ∷ 0 ∷ 600 ∷ 9_500 ∷ 50 ∷ 20 ∷ [])
-    ∷ refused 15 (50_000_001 ∷ 1 ∷ 3 ∷ 1 ∷ 2 ∷ 1_500 ∷ 1_502 ∷ 0 ∷ 0 ∷ 0 ∷ 600 ∷ 9_500 ∷ 50 ∷ 20 ∷ [])
-    ∷ refused 15 (50_000_001 ∷ 1 ∷ 3 ∷ 1 ∷ 2 ∷ 1_502 ∷ 1_500 ∷ 0 ∷ 0 ∷ 0 ∷ 600 ∷ 9_500 ∷ 50 ∷ 20 ∷ [])
-    ∷ passes (50_000_001 ∷ 1 ∷ 3 ∷ 1 ∷ 4 ∷ 1_500 ∷ 1_502 ∷ 1_501 ∷ 1_501 ∷ 0 ∷ 600 ∷ 9_500 ∷ 50 ∷ 20 ∷ [])
+    ∷ passes (withDip 2 1_500 1_501 0 0 0)
+    ∷ passes (withDip 2 1_501 1_500 0 0 0)
+    ∷ refused 15 (withDip 2 1_500 1_502 0 0 0)
+    ∷ refused 15 (withDip 2 1_502 1_500 0 0 0)
+    ∷ passes (withDip 4 1_500 1_502 1_501 1_501 0)
     -- 16
-    ∷ refused 16 (50_000_001 ∷ 1 ∷ 3 ∷ 1 ∷ 2 ∷ 0 ∷ 0 ∷ 0 ∷ 0 ∷ 0 ∷ 600 ∷ 9_500 ∷ 50 ∷ 20 ∷ [])
-    ∷ passes (50_000_001 ∷ 1 ∷ 3 ∷ 1 ∷ 2 ∷ 0 ∷ 1 ∷ 0 ∷ 0 ∷ 0 ∷ 600 ∷ 9_500 ∷ 50 ∷ 20 ∷ [])
-    ∷ passes (50_000_001 ∷ 1 ∷ 3 ∷ 1 ∷ 2 ∷ 3_000 ∷ 3_000 ∷ 0 ∷ 0 ∷ 0 ∷ 600 ∷ 9_500 ∷ 50 ∷ 20 ∷ [])
-    ∷ refused 16 (50_000_001 ∷ 1 ∷ 3 ∷ 1 ∷ 2 ∷ 3_001 ∷ 3_001 ∷ 0 ∷ 0 ∷ 0 ∷ 600 ∷ 9_500 ∷ 50 ∷ 20 ∷ [])
+    ∷ refused 16 (withDip 2 0 0 0 0 0)
+    ∷ passes (withDip 2 0 1 0 0 0)
+    ∷ passes (withDip 2 3_000 3_000 0 0 0)
+    ∷ refused 16 (withDip 2 3_001 3_001 0 0 0)
     -- 17
-    ∷ passes (50_000_001 ∷ 1 ∷ 3 ∷ 1 ∷ 2 ∷ 1_500 ∷ 1_500 ∷ 0 ∷ 0 ∷ 1_499 ∷ 600 ∷ 9_500 ∷ 50 ∷ 20 ∷ [])
-    ∷ refused 17 (50_000_001 ∷ 1 ∷ 3 ∷ 1 ∷ 2 ∷ 1_500 ∷ 1_500 ∷ 0 ∷ 0 ∷ 1_500 ∷ 600 ∷ 9_500 ∷ 50 ∷ 20 ∷ [])
+    ∷ passes (withDip 2 1_500 1_500 0 0 1_499)
+    ∷ refused 17 (withDip 2 1_500 1_500 0 0 1_500)
     -- 18, by grade
-    ∷ refused 18 (50_000_001 ∷ 1 ∷ 1 ∷ 1 ∷ 2 ∷ 1_500 ∷ 1_500 ∷ 0 ∷ 0 ∷ 0 ∷ 199 ∷ 9_000 ∷ 30 ∷ 10 ∷ [])
-    ∷ passes (50_000_001 ∷ 1 ∷ 1 ∷ 1 ∷ 2 ∷ 1_500 ∷ 1_500 ∷ 0 ∷ 0 ∷ 0 ∷ 200 ∷ 9_000 ∷ 30 ∷ 10 ∷ [])
-    ∷ passes (50_000_001 ∷ 1 ∷ 1 ∷ 1 ∷ 2 ∷ 1_500 ∷ 1_500 ∷ 0 ∷ 0 ∷ 0 ∷ 900 ∷ 9_000 ∷ 30 ∷ 10 ∷ [])
-    ∷ refused 18 (50_000_001 ∷ 1 ∷ 1 ∷ 1 ∷ 2 ∷ 1_500 ∷ 1_500 ∷ 0 ∷ 0 ∷ 0 ∷ 901 ∷ 9_000 ∷ 30 ∷ 10 ∷ [])
-    ∷ refused 18 (50_000_001 ∷ 1 ∷ 2 ∷ 1 ∷ 2 ∷ 1_500 ∷ 1_500 ∷ 0 ∷ 0 ∷ 0 ∷ 199 ∷ 9_000 ∷ 30 ∷ 10 ∷ [])
-    ∷ passes (50_000_001 ∷ 1 ∷ 2 ∷ 1 ∷ 2 ∷ 1_500 ∷ 1_500 ∷ 0 ∷ 0 ∷ 0 ∷ 200 ∷ 9_000 ∷ 30 ∷ 10 ∷ [])
-    ∷ passes (50_000_001 ∷ 1 ∷ 2 ∷ 1 ∷ 2 ∷ 1_500 ∷ 1_500 ∷ 0 ∷ 0 ∷ 0 ∷ 900 ∷ 9_000 ∷ 30 ∷ 10 ∷ [])
-    ∷ refused 18 (50_000_001 ∷ 1 ∷ 2 ∷ 1 ∷ 2 ∷ 1_500 ∷ 1_500 ∷ 0 ∷ 0 ∷ 0 ∷ 901 ∷ 9_000 ∷ 30 ∷ 10 ∷ [])
-    ∷ refused 18 (50_000_001 ∷ 1 ∷ 3 ∷ 1 ∷ 2 ∷ 1_500 ∷ 1_500 ∷ 0 ∷ 0 ∷ 0 ∷ 399 ∷ 9_000 ∷ 30 ∷ 10 ∷ [])
-    ∷ passes (50_000_001 ∷ 1 ∷ 3 ∷ 1 ∷ 2 ∷ 1_500 ∷ 1_500 ∷ 0 ∷ 0 ∷ 0 ∷ 400 ∷ 9_000 ∷ 30 ∷ 10 ∷ [])
-    ∷ passes (50_000_001 ∷ 1 ∷ 3 ∷ 1 ∷ 2 ∷ 1_500 ∷ 1_500 ∷ 0 ∷ 0 ∷ 0 ∷ 900 ∷ 9_000 ∷ 30 ∷ 10 ∷ [])
-    ∷ refused 18 (50_000_001 ∷ 1 ∷ 3 ∷ 1 ∷ 2 ∷ 1_500 ∷ 1_500 ∷ 0 ∷ 0 ∷ 0 ∷ 901 ∷ 9_000 ∷ 30 ∷ 10 ∷ [])
-    ∷ refused 18 (50_000_001 ∷ 1 ∷ 4 ∷ 1 ∷ 2 ∷ 1_500 ∷ 1_500 ∷ 0 ∷ 0 ∷ 0 ∷ 399 ∷ 9_000 ∷ 30 ∷ 10 ∷ [])
-    ∷ passes (50_000_001 ∷ 1 ∷ 4 ∷ 1 ∷ 2 ∷ 1_500 ∷ 1_500 ∷ 0 ∷ 0 ∷ 0 ∷ 400 ∷ 9_000 ∷ 30 ∷ 10 ∷ [])
-    ∷ passes (50_000_001 ∷ 1 ∷ 4 ∷ 1 ∷ 2 ∷ 1_500 ∷ 1_500 ∷ 0 ∷ 0 ∷ 0 ∷ 900 ∷ 9_000 ∷ 30 ∷ 10 ∷ [])
-    ∷ refused 18 (50_000_001 ∷ 1 ∷ 4 ∷ 1 ∷ 2 ∷ 1_500 ∷ 1_500 ∷ 0 ∷ 0 ∷ 0 ∷ 901 ∷ 9_000 ∷ 30 ∷ 10 ∷ [])
+    ∷ refused 18 (withOil 1 199 9_000 30 10)
+    ∷ passes (withOil 1 200 9_000 30 10)
+    ∷ passes (withOil 1 900 9_000 30 10)
+    ∷ refused 18 (withOil 1 901 9_000 30 10)
+    ∷ refused 18 (withOil 2 199 9_000 30 10)
+    ∷ passes (withOil 2 200 9_000 30 10)
+    ∷ passes (withOil 2 900 9_000 30 10)
+    ∷ refused 18 (withOil 2 901 9_000 30 10)
+    ∷ refused 18 (withOil 3 399 9_000 30 10)
+    ∷ passes (withOil 3 400 9_000 30 10)
+    ∷ passes (withOil 3 900 9_000 30 10)
+    ∷ refused 18 (withOil 3 901 9_000 30 10)
+    ∷ refused 18 (withOil 4 399 9_000 30 10)
+    ∷ passes (withOil 4 400 9_000 30 10)
+    ∷ passes (withOil 4 900 9_000 30 10)
+    ∷ refused 18 (withOil 4 901 9_000 30 10)
     -- 19
-    ∷ refused 19 (50_000_001 ∷ 1 ∷ 3 ∷ 1 ∷ 2 ∷ 1_500 ∷ 1_500 ∷ 0 ∷ 0 ∷ 0 ∷ 600 ∷ 8_999 ∷ 50 ∷ 20 ∷ [])
-    ∷ passes (50_000_001 ∷ 1 ∷ 3 ∷ 1 ∷ 2 ∷ 1_500 ∷ 1_500 ∷ 0 ∷ 0 ∷ 0 ∷ 600 ∷ 9_000 ∷ 50 ∷ 20 ∷ [])
-    ∷ passes (50_000_001 ∷ 1 ∷ 3 ∷ 1 ∷ 2 ∷ 1_500 ∷ 1_500 ∷ 0 ∷ 0 ∷ 0 ∷ 600 ∷ 9_900 ∷ 50 ∷ 20 ∷ [])
-    ∷ refused 19 (50_000_001 ∷ 1 ∷ 3 ∷ 1 ∷ 2 ∷ 1_500 ∷ 1_500 ∷ 0 ∷ 0 ∷ 0 ∷ 600 ∷ 9_901 ∷ 50 ∷ 20 ∷ [])
+    ∷ refused 19 (withOil 3 600 8_999 50 20)
+    ∷ passes (withOil 3 600 9_000 50 20)
+    ∷ passes (withOil 3 600 9_900 50 20)
+    ∷ refused 19 (withOil 3 600 9_901 50 20)
     -- 20, by grade
-    ∷ passes (50_000_001 ∷ 1 ∷ 1 ∷ 1 ∷ 2 ∷ 1_500 ∷ 1_500 ∷ 0 ∷ 0 ∷ 0 ∷ 600 ∷ 9_500 ∷ 30 ∷ 10 ∷ [])
-    ∷ refused 20 (50_000_001 ∷ 1 ∷ 1 ∷ 1 ∷ 2 ∷ 1_500 ∷ 1_500 ∷ 0 ∷ 0 ∷ 0 ∷ 600 ∷ 9_500 ∷ 31 ∷ 10 ∷ [])
-    ∷ refused 20 (50_000_001 ∷ 1 ∷ 1 ∷ 1 ∷ 2 ∷ 1_500 ∷ 1_500 ∷ 0 ∷ 0 ∷ 0 ∷ 600 ∷ 9_500 ∷ 30 ∷ 11 ∷ [])
-    ∷ passes (50_000_001 ∷ 1 ∷ 2 ∷ 1 ∷ 2 ∷ 1_500 ∷ 1_500 ∷ 0 ∷ 0 ∷ 0 ∷ 600 ∷ 9_500 ∷ 30 ∷ 12 ∷ [])
-    ∷ refused 20 (50_000_001 ∷ 1 ∷ 2 ∷ 1 ∷ 2 ∷ 1_500 ∷ 1_500 ∷ 0 ∷ 0 ∷ 0 ∷ 600 ∷ 9_500 ∷ 31 ∷ 12 ∷ [])
-    ∷ refused 20 (50_000_001 ∷ 1 ∷ 2 ∷ 1 ∷ 2 ∷ 1_500 ∷ 1_500 ∷ 0 ∷ 0 ∷ 0 ∷ 600 ∷ 9_500 ∷ 30 ∷ 13 ∷ [])
-    ∷ passes (50_000_001 ∷ 1 ∷ 3 ∷ 1 ∷ 2 ∷ 1_500 ∷ 1_500 ∷ 0 ∷ 0 ∷ 0 ∷ 600 ∷ 9_500 ∷ 100 ∷ 50 ∷ [])
-    ∷ refused 20 (50_000_001 ∷ 1 ∷ 3 ∷ 1 ∷ 2 ∷ 1_500 ∷ 1_500 ∷ 0 ∷ 0 ∷ 0 ∷ 600 ∷ 9_500 ∷ 101 ∷ 50 ∷ [])
-    ∷ refused 20 (50_000_001 ∷ 1 ∷ 3 ∷ 1 ∷ 2 ∷ 1_500 ∷ 1_500 ∷ 0 ∷ 0 ∷ 0 ∷ 600 ∷ 9_500 ∷ 100 ∷ 51 ∷ [])
-    ∷ passes (50_000_001 ∷ 1 ∷ 4 ∷ 1 ∷ 2 ∷ 1_500 ∷ 1_500 ∷ 0 ∷ 0 ∷ 0 ∷ 600 ∷ 9_500 ∷ 100 ∷ 100 ∷ [])
-    ∷ refused 20 (50_000_001 ∷ 1 ∷ 4 ∷ 1 ∷ 2 ∷ 1_500 ∷ 1_500 ∷ 0 ∷ 0 ∷ 0 ∷ 600 ∷ 9_500 ∷ 101 ∷ 100 ∷ [])
-    ∷ refused 20 (50_000_001 ∷ 1 ∷ 4 ∷ 1 ∷ 2 ∷ 1_500 ∷ 1_500 ∷ 0 ∷ 0 ∷ 0 ∷ 600 ∷ 9_500 ∷ 100 ∷ 101 ∷ [])
+    ∷ passes (withOil 1 600 9_500 30 10)
+    ∷ refused 20 (withOil 1 600 9_500 31 10)
+    ∷ refused 20 (withOil 1 600 9_500 30 11)
+    ∷ passes (withOil 2 600 9_500 30 12)
+    ∷ refused 20 (withOil 2 600 9_500 31 12)
+    ∷ refused 20 (withOil 2 600 9_500 30 13)
+    ∷ passes (withOil 3 600 9_500 100 50)
+    ∷ refused 20 (withOil 3 600 9_500 101 50)
+    ∷ refused 20 (withOil 3 600 9_500 100 51)
+    ∷ passes (withOil 4 600 9_500 100 100)
+    ∷ refused 20 (withOil 4 600 9_500 101 100)
+    ∷ refused 20 (withOil 4 600 9_500 100 101)
     -- 21, for grades 1 and 2
-    ∷ passes (50_000_001 ∷ 1 ∷ 1 ∷ 1 ∷ 2 ∷ 1_500 ∷ 1_500 ∷ 0 ∷ 0 ∷ 0 ∷ 600 ∷ 9_584 ∷ 0 ∷ 0 ∷ [])
-    ∷ refused 21 (50_000_001 ∷ 1 ∷ 1 ∷ 1 ∷ 2 ∷ 1_500 ∷ 1_500 ∷ 0 ∷ 0 ∷ 0 ∷ 600 ∷ 9_585 ∷ 0 ∷ 0 ∷ [])
-    ∷ passes (50_000_001 ∷ 1 ∷ 2 ∷ 1 ∷ 2 ∷ 1_500 ∷ 1_500 ∷ 0 ∷ 0 ∷ 0 ∷ 600 ∷ 9_634 ∷ 0 ∷ 0 ∷ [])
-    ∷ refused 21 (50_000_001 ∷ 1 ∷ 2 ∷ 1 ∷ 2 ∷ 1_500 ∷ 1_500 ∷ 0 ∷ 0 ∷ 0 ∷ 600 ∷ 9_635 ∷ 0 ∷ 0 ∷ [])
-    ∷ passes (50_000_001 ∷ 1 ∷ 4 ∷ 1 ∷ 2 ∷ 1_500 ∷ 1_500 ∷ 0 ∷ 0 ∷ 0 ∷ 600 ∷ 9_900 ∷ 0 ∷ 0 ∷ [])
+    ∷ passes (withOil 1 600 9_584 0 0)
+    ∷ refused 21 (withOil 1 600 9_585 0 0)
+    ∷ passes (withOil 2 600 9_634 0 0)
+    ∷ refused 21 (withOil 2 600 9_635 0 0)
+    ∷ passes (withOil 4 600 9_900 0 0)
     -- two faults: the first in the list is given
-    ∷ gives (aloneAnswer (badType ∷ []) (carOf (0 ∷ 1 ∷ 3 ∷ 1 ∷ 2 ∷ 1_500 ∷ 1_500 ∷ 0 ∷ 0 ∷ 0 ∷ 600 ∷ 9_500 ∷ 50 ∷ 20 ∷ []))) (refusal 7)
-    ∷ gives (aloneAnswer (badRow ∷ []) (carOf (0 ∷ 1 ∷ 3 ∷ 1 ∷ 2 ∷ 1_500 ∷ 1_500 ∷ 0 ∷ 0 ∷ 0 ∷ 600 ∷ 9_500 ∷ 50 ∷ 20 ∷ []))) (refusal 8)
-    ∷ gives (aloneAnswer (badRow ∷ badType ∷ []) (carOf (50_000_001 ∷ 1 ∷ 3 ∷ 1 ∷ 2 ∷ 1_500 ∷ 1_500 ∷ 0 ∷ 0 ∷ 0 ∷ 600 ∷ 9_500 ∷ 50 ∷ 20 ∷ []))) (refusal 8)
+    ∷ gives (aloneAnswer (badType ∷ []) (carOf (withNumber 0))) (refusal 7)
+    ∷ gives (aloneAnswer (badRow ∷ []) (carOf (withNumber 0))) (refusal 8)
+    ∷ gives (aloneAnswer (badRow ∷ badType ∷ []) (carOf firstCar)) (refusal 8)
     ∷ refused 10 (0 ∷ 2 ∷ 3 ∷ 1 ∷ 2 ∷ 1_500 ∷ 1_500 ∷ 0 ∷ 0 ∷ 0 ∷ 600 ∷ 9_500 ∷ 50 ∷ 20 ∷ [])
-    ∷ refused 12 (50_000_001 ∷ 2 ∷ 0 ∷ 1 ∷ 2 ∷ 1_500 ∷ 1_500 ∷ 0 ∷ 0 ∷ 0 ∷ 600 ∷ 9_500 ∷ 50 ∷ 20 ∷ [])
+    ∷ refused 12 (withCodes 2 0 1)
     ∷ refused 13 (50_000_001 ∷ 1 ∷ 0 ∷ 1 ∷ 3 ∷ 1_500 ∷ 1_500 ∷ 0 ∷ 0 ∷ 0 ∷ 600 ∷ 9_500 ∷ 50 ∷ 20 ∷ [])
-    ∷ refused 14 (50_000_001 ∷ 1 ∷ 3 ∷ 1 ∷ 2 ∷ 1_500 ∷ 1_502 ∷ 1 ∷ 0 ∷ 0 ∷ 600 ∷ 9_500 ∷ 50 ∷ 20 ∷ [])
-    ∷ refused 15 (50_000_001 ∷ 1 ∷ 3 ∷ 1 ∷ 2 ∷ 3_001 ∷ 3_003 ∷ 0 ∷ 0 ∷ 0 ∷ 600 ∷ 9_500 ∷ 50 ∷ 20 ∷ [])
-    ∷ refused 16 (50_000_001 ∷ 1 ∷ 3 ∷ 1 ∷ 2 ∷ 3_001 ∷ 3_001 ∷ 0 ∷ 0 ∷ 3_001 ∷ 600 ∷ 9_500 ∷ 50 ∷ 20 ∷ [])
+    ∷ refused 14 (withDip 2 1_500 1_502 1 0 0)
+    ∷ refused 15 (withDip 2 3_001 3_003 0 0 0)
+    ∷ refused 16 (withDip 2 3_001 3_001 0 0 3_001)
     ∷ refused 17 (50_000_001 ∷ 1 ∷ 3 ∷ 1 ∷ 2 ∷ 1_500 ∷ 1_500 ∷ 0 ∷ 0 ∷ 1_500 ∷ 399 ∷ 9_500 ∷ 50 ∷ 20 ∷ [])
-    ∷ refused 18 (50_000_001 ∷ 1 ∷ 3 ∷ 1 ∷ 2 ∷ 1_500 ∷ 1_500 ∷ 0 ∷ 0 ∷ 0 ∷ 399 ∷ 8_999 ∷ 50 ∷ 20 ∷ [])
-    ∷ refused 19 (50_000_001 ∷ 1 ∷ 3 ∷ 1 ∷ 2 ∷ 1_500 ∷ 1_500 ∷ 0 ∷ 0 ∷ 0 ∷ 600 ∷ 8_999 ∷ 101 ∷ 20 ∷ [])
-    ∷ refused 20 (50_000_001 ∷ 1 ∷ 1 ∷ 1 ∷ 2 ∷ 1_500 ∷ 1_500 ∷ 0 ∷ 0 ∷ 0 ∷ 600 ∷ 9_585 ∷ 31 ∷ 0 ∷ [])
+    ∷ refused 18 (withOil 3 399 8_999 50 20)
+    ∷ refused 19 (withOil 3 600 8_999 101 20)
+    ∷ refused 20 (withOil 1 600 9_585 31 0)
     ∷ []
 
 -- the rules give each figure of the card

@@ -2,4 +2,5 @@ pub mod Measured
 pub mod Exact
 pub mod Car
 pub mod Card
+pub mod OperationsCard
 pub mod ExactCard

@@ -1,5 +1,6 @@
 // The number in a field, read four columns at a time where it has the length that is usual in a row.
 ghost use mathlib.Core.Path.{_≡_};
+ghost use mathlib.Core.Bool.{false};
 ghost use Prim.Native.Nat.{_+_, _≤_};
 ghost use lib.ListN.{length};
 ghost use Rattle.base.specs.Limits.{largest};
@@ -62,20 +63,70 @@ fn four_digits(least: u32, a: u8, b: u8, c: u8, d: u8) -> u32
     NO_NUMBER
 }
 
-// The number of one to four digits behind spaces.
+fn not_digit(b: u8) -> bool
+    ensures { λ r. ⌜ (r ≡ false → (48 ≤ b) × (b ≤ 57)) ⌝ }
+{
+    if b < 48 {
+        return true;
+    }
+    57 < b
+}
+
+// The digit that a column holds.
+fn digit(b: u8) -> u32
+    requires { ⌜ (48 ≤ b) × (b ≤ 57) ⌝ }
+    ensures { λ r. ⌜ (b ≡ 48 + r) × (r ≤ 9) ⌝ }
+{
+    (b - 48) as u32
+}
+
+// n, if it is not below `least` and both columns before it are spaces.
+fn behind_spaces(a: u8, b: u8, least: u32, n: u32) -> u32
+    ensures { λ r. ⌜ (r ≤ largest → (r ≡ n) × (least ≤ n) × (a ≡ 32) × (b ≡ 32)) ⌝ }
+{
+    if a == 32 {
+        if b == 32 {
+            if least <= n {
+                return n;
+            }
+        }
+    }
+    NO_NUMBER
+}
+
+// The number of one to four digits behind spaces, from its last digit on.
 fn short_number(f: Four) -> u32
     ensures { λ r. ⌜ (r ≤ largest → ShortOf f r) ⌝ }
 {
-    if f.a != 32 {
-        return four_digits(1_000, f.a, f.b, f.c, f.d);
+    if not_digit(f.d) {
+        return NO_NUMBER;
     }
-    if f.b != 32 {
-        return four_digits(100, 48, f.b, f.c, f.d);
+    let one = digit(f.d);
+    if f.c == 32 {
+        return behind_spaces(f.a, f.b, 0, one);
     }
-    if f.c != 32 {
-        return four_digits(10, 48, 48, f.c, f.d);
+    if not_digit(f.c) {
+        return NO_NUMBER;
     }
-    four_digits(0, 48, 48, 48, f.d)
+    let two = 10 * digit(f.c) + one;
+    if f.b == 32 {
+        return behind_spaces(f.a, f.b, 10, two);
+    }
+    if not_digit(f.b) {
+        return NO_NUMBER;
+    }
+    let three = 100 * digit(f.b) + two;
+    if f.a == 32 {
+        return behind_spaces(f.a, f.a, 100, three);
+    }
+    if not_digit(f.a) {
+        return NO_NUMBER;
+    }
+    let four = 1_000 * digit(f.a) + three;
+    if four < 1_000 {
+        return NO_NUMBER;
+    }
+    four
 }
 
 // The number of one or two digits, from 1 on, in two columns.
@@ -115,13 +166,20 @@ pub fn short_field(s: &[u8], at: usize) -> u32
     bare_number(s, at)
 }
 
-// The same, quick where the number has five or six digits.
+// The same, quick where the number has at most six digits.
 pub fn long_field(s: &[u8], at: usize) -> u32
     requires { ⌜ at + columns ≤ length (now s) ⌝ }
     ensures { λ r. ⌜ r ≡ bareNumber (fieldAt (now (s .entry)) at) ⌝ }
 {
     let f = first_four(s, at);
     if s[at] == 32 && f.a == 32 && f.b == 32 {
+        if f.c == 32 && f.d == 32 {
+            let n = short_number(last_four(s, at));
+            if n <= LARGEST {
+                return n;
+            }
+            return bare_number(s, at);
+        }
         let high = high_number(f.c, f.d);
         if high <= LARGEST {
             let l = last_four(s, at);

@@ -4,6 +4,7 @@ ghost use Rattle.table.specs.Layout.{tablesOf};
 ghost use Rattle.car.specs.Car.{measured, aloneAnswer, carTold};
 ghost use Rattle.train.specs.Demand3.{Close, InOrder};
 ghost use Rattle.car.specs.Card.{AllRight};
+ghost use Rattle.car.specs.OperationsCard.{OperationsRight};
 ghost use Rattle.car.specs.ExactCard.{ExactRight};
 ghost use Rattle.train.specs.Examples.{OrderExample};
 use car::Car;
@@ -22,7 +23,7 @@ pub fn work_out(
         (carTold r ≡ aloneAnswer (tablesOf d (now (levels .entry)) (now (capacities .entry))) car)
         × Close (tablesOf d (now (levels .entry)) (now (capacities .entry))) (measured car) (carTold r)
         × InOrder (tablesOf d (now (levels .entry)) (now (capacities .entry))) (measured car) (carTold r)
-        × AllRight × ExactRight × OrderExample
+        × AllRight × OperationsRight × ExactRight × OrderExample
         ⌝ }
 {
     let by_tables = table::check_tables(d, levels, capacities);

@@ -63,8 +63,7 @@ impl Train {
         if by_number != 0 {
             return by_number;
         }
-        let numbers = self.numbers;
-        if base::holds(&numbers, self.held as usize, number) {
+        if base::holds(&self.numbers, self.held as usize, number) {
             return 11;
         }
         0

@@ -1,37 +1,35 @@
--- `base::holds` meets its contract: what was found so far is what `member` says of those of the first n numbers that were passed.
+-- `base::holds` meets its contract: what was found so far is what `member` says of the numbers that were passed.
 use Prim.Native.Nat.{ℕ, _+_, _-_, _≤_, _<_, min}
 use mathlib.Core.Path.{_≡_, refl, ap, sym, _∙_}
 use mathlib.Core.List.{List}
 use mathlib.Core.Logic.{⊎-elim}
-use native.Mathlib.Nat.{le-min, min-le-right}
+use native.Mathlib.Nat.{min-le-right}
 use native.Mathlib.Omega.{arith}
-use lib.ListN.{length, getD, take, length-take}
-use lib.Seq.{getD-take, take-all}
+use lib.ListN.{length, take}
 use borrow.Author.Needs.{needs}
 use denote.Ref.{now}
 use Rattle.base.specs.Numbers.{member}
-use Rattle.base.proofs.Numbers.{member-hit, member-miss, take-past}
+use Rattle.base.proofs.Numbers.{member-hit, member-miss, take-lesser}
 use Rattle.base.proofs.holds.Statement.{statement}
 use Rattle.base.proofs.holds.Tie as tie
 
 abbrev Inv-loop : tie.InvT-loop
-Inv-loop numbers n x found₀ i₀ found i = (i ≤ length numbers) × (found ≡ member x (take i (take n numbers)))
+Inv-loop numbers n x last found₀ i₀ found i = (i ≤ last) × (found ≡ member x (take i numbers))
 
 abbrev μ-loop : tie.MeasureT-loop
-μ-loop numbers n x found₀ i₀ found i = length numbers - i
+μ-loop numbers n x last found₀ i₀ found i = last - i
 
--- an index among the first n and within the row is one of the part
-within : (n i : ℕ) (row : List ℕ) → i < n → i < length row → i < length (take n row)
-within n i row h k = let both : i + 1 ≤ min n (length row) = le-min (omega arith) (omega arith) in omega (arith, length-take n row)
+lesser-requires : tie.Need-lesser-requires Inv-loop μ-loop
+lesser-requires c κs = search needs
 
 loop-holds : tie.Need-loop-holds Inv-loop μ-loop
 loop-holds c = (search needs, refl)
 
-mul-if2 : tie.Need-mul-if2 Inv-loop μ-loop
-mul-if2 c = search needs
+mul-if1 : tie.Need-mul-if1 Inv-loop μ-loop
+mul-if1 c = search needs
 
-shared-slice-read-if2 : tie.Need-shared-slice-read-if2 Inv-loop μ-loop
-shared-slice-read-if2 c = search needs
+shared-slice-read-if1 : tie.Need-shared-slice-read-if1 Inv-loop μ-loop
+shared-slice-read-if1 c = search needs
 
 add-i : tie.Need-add-i Inv-loop μ-loop
 add-i c = search needs
@@ -41,26 +39,24 @@ loop-less c = search needs
 
 loop-again : tie.Need-loop-again Inv-loop μ-loop
 loop-again c =
-    let l = c .before .before in
-    let a = l .before .args in
-    let row : List ℕ = now (a .numbers) in (
+    let l = c .before .before .before in
+    let a = l .before .before .before .args in
+    let row : List ℕ = now (a .numbers) in
+    let within : l .loop .i < length row = omega (arith, c .before .before .loop-test .taken, l .before .lesser .ensures, min-le-right (a .n) (length row)) in (
       search needs,
       ⊎-elim
-          (λ w. w .3 ∙ member-hit (a .x) (take (a .n) row) (l .loop .i) (within (a .n) (l .loop .i) row (w .0 .taken) (c .before .loop-test .taken)) (getD-take (a .n) row (l .loop .i) 0 (w .0 .taken) ∙ w .2 .taken))
-          (λ w.
-          ⊎-elim
-          (λ v. v .3 ∙ member-miss (a .x) (take (a .n) row) (l .loop .i) (within (a .n) (l .loop .i) row (v .0 .taken) (c .before .loop-test .taken)) (λ e. v .2 .left (sym (getD-take (a .n) row (l .loop .i) 0 (v .0 .taken)) ∙ e)) (l .loop .inv .1))
-          (λ v. v .1 ∙ l .loop .inv .1 ∙ ap (member (a .x)) (take-past (a .n) (l .loop .i) row (v .0 .left) ∙ sym (take-past (a .n) (l .loop .i + 1) row (omega (arith, v .0 .left)))))
-          w)
+          (λ w. w .1 ∙ member-hit (a .x) row (l .loop .i) within (w .0 .taken))
+          (λ w. member-miss (a .x) row (l .loop .i) within (w .0 .left) (w .1 ∙ l .loop .inv .1))
           (c .if1 .came),
     )
 
 returns : tie.Need-returns Inv-loop μ-loop
 returns c =
     let l = c .before in
-    let a = l .before .args in
+    let a = l .before .before .before .args in
     let row : List ℕ = now (a .numbers) in
-    l .loop .inv .1 ∙ ap (member (a .x)) (take-all (l .loop .i) (take (a .n) row) (omega (arith, length-take (a .n) row, min-le-right (a .n) (length row))))
+    let passed : l .loop .i ≡ min (a .n) (length row) = omega (arith, l .before .lesser .ensures, l .loop .inv .0) in
+    l .loop .inv .1 ∙ ap (λ (k : ℕ). member (a .x) (take k row)) passed ∙ ap (member (a .x)) (take-lesser (a .n) row)
 
 pub holds-spec : {M : Type 1} → statement M
 holds-spec =
@@ -68,9 +64,10 @@ holds-spec =
     (tie.spec
     Inv-loop
     μ-loop
+    lesser-requires
     loop-holds
-    mul-if2
-    shared-slice-read-if2
+    mul-if1
+    shared-slice-read-if1
     add-i
     loop-less
     loop-again

@@ -12,17 +12,18 @@ use borrow.Author.Needs.{needs}
 use Rattle.train.proofs.Train.refusal.Statement.{statement}
 use Rattle.train.proofs.Train.refusal.Tie as tie
 
-not-full : (c : tie.Else1) → full (c .before .before .args .self) ≡ false
+-- t1 is the train itself, of which a part is lent
+not-full : (c : tie.Else1) → full (c .before .before .args .t1) ≡ false
 not-full c = sym (c .before .is-full .ensures) ∙ c .if1 .left
 
 -- past 9 and 10 what is handed on is 11's
 eleven : (c : tie.Else2) {k : ℕ} → let a = c .before .before .before .before .args in
-    k ≡ firstNumber (refuseIf 11 (member (a .number) (heldBy (a .self))) ∷ []) → k ≡ firstNumber (trainTests (a .self) (a .number))
+    k ≡ firstNumber (refuseIf 11 (member (a .number) (heldBy (a .t1))) ∷ []) → k ≡ firstNumber (trainTests (a .t1) (a .number))
 eleven c e =
     let n = c .before in
     let a = n .before .before .before .args in
     rw (not-full (n .before))
-    (number-goes-on (refuseIf 11 (member (a .number) (heldBy (a .self))) ∷ []) (numberTests (a .number)) refl (n .number-refusal .ensures) (c .if2 .left) e)
+    (number-goes-on (refuseIf 11 (member (a .number) (heldBy (a .t1))) ∷ []) (numberTests (a .number)) refl (n .number-refusal .ensures) (c .if2 .left) e)
 
 is-full-requires : tie.Need-is-full-requires
 is-full-requires c κs = search needs
@@ -38,10 +39,7 @@ returns-2 c =
     let n = c .before in
     let a = n .before .before .before .args in
     rw (not-full (n .before))
-    (number-stops (refuseIf 11 (member (a .number) (heldBy (a .self))) ∷ []) (numberTests (a .number)) (n .number-refusal .ensures) (c .if2 .taken))
-
-slice-aggregate-holds : tie.Need-slice-aggregate-holds
-slice-aggregate-holds c = search needs
+    (number-stops (refuseIf 11 (member (a .number) (heldBy (a .t1))) ∷ []) (numberTests (a .number)) (n .number-refusal .ensures) (c .if2 .taken))
 
 cast-holds : tie.Need-cast-holds
 cast-holds c = search needs
@@ -63,7 +61,6 @@ refusal-spec =
     returns
     number-refusal-requires
     returns-2
-    slice-aggregate-holds
     cast-holds
     holds-requires
     returns-3

@@ -14,8 +14,10 @@ use Rattle.car.specs.Car.{measured, aloneAnswer, carTold}
 use Rattle.car.proofs.Answers.{alone-tables, alone-number, alone-own}
 use Rattle.train.specs.Demand3.{Close, InOrder, alone}
 use Rattle.car.specs.Card.{AllRight}
+use Rattle.car.specs.OperationsCard.{OperationsRight}
 use Rattle.car.specs.ExactCard.{ExactRight}
 use Rattle.car.proofs.Card.{all-right}
+use Rattle.car.proofs.OperationsCard.{operations-right}
 use Rattle.car.proofs.ExactCard.{exact-right}
 use Rattle.train.specs.Examples.{OrderExample}
 use Rattle.train.proofs.Examples.{order-example}
@@ -28,8 +30,8 @@ abbrev all : tie.Start → List Table
 all s = tablesOf (s .args .d) (now (s .args .levels)) (now (s .args .capacities))
 
 -- the other clauses from the first
-whole : (ts : List Table) (c : Car) (a : Answer) → a ≡ aloneAnswer ts c → (a ≡ aloneAnswer ts c) × Close ts (measured c) a × InOrder ts (measured c) a × AllRight × ExactRight × OrderExample
-whole ts c a e = (e, rw e (close ts (measured c) (aloneAnswer ts c) (alone c)), rw e (in-order ts (measured c) (aloneAnswer ts c) (alone c)), all-right, exact-right, order-example)
+whole : (ts : List Table) (c : Car) (a : Answer) → a ≡ aloneAnswer ts c → (a ≡ aloneAnswer ts c) × Close ts (measured c) a × InOrder ts (measured c) a × AllRight × OperationsRight × ExactRight × OrderExample
+whole ts c a e = (e, rw e (close ts (measured c) (aloneAnswer ts c) (alone c)), rw e (in-order ts (measured c) (aloneAnswer ts c) (alone c)), all-right, operations-right, exact-right, order-example)
 
 good : (c : tie.Else1) → let a = c .before .before .args in Good (a .d) (now (a .levels)) (now (a .capacities))
 good c = good-tables (sym (c .before .check-tables .ensures) ∙ c .if1 .left)
