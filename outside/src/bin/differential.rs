@@ -28,19 +28,38 @@ fn main() -> ExitCode {
         }
     };
 
+    let workers = std::thread::available_parallelism().map_or(1, |cores| cores.get() as u64);
+    let compared = std::thread::scope(|scope| {
+        let started: Vec<_> = (0..workers)
+            .map(|worker| {
+                let places = (worker..count).step_by(workers as usize);
+                scope.spawn(move || compare(places.map(|place| first.wrapping_add(place))))
+            })
+            .collect();
+        started.into_iter().map(|worker| worker.join().expect("a worker ends")).collect()
+    });
+    let tallies: Option<Vec<Tally>> = compared;
+    let Some(tallies) = tallies else {
+        return ExitCode::FAILURE;
+    };
+    tallies.iter().fold(Tally::default(), Tally::with).print();
+    ExitCode::SUCCESS
+}
+
+/// Compares the sheets of some seeds, up to the first difference, of which it tells.
+fn compare(seeds: impl Iterator<Item = u64>) -> Option<Tally> {
     let mut tally = Tally::default();
-    for seed in (0..count).map(|place| first.wrapping_add(place)) {
+    for seed in seeds {
         let sheet = sheets::sheet(seed);
         let proved = Outcome::of(outside::answer_sheet, &sheet, seed);
         let expected = Outcome::of(reference::answer_sheet, &sheet, seed);
         if proved != expected {
             report_difference(seed, &sheet, &proved, &expected);
-            return ExitCode::FAILURE;
+            return None;
         }
         tally.add(&proved);
     }
-    tally.print();
-    ExitCode::SUCCESS
+    Some(tally)
 }
 
 /// What a program did with a sheet: what it returned, and all bytes of the buffer and around it.
@@ -102,6 +121,17 @@ struct Tally {
 }
 
 impl Tally {
+    /// Both together.
+    fn with(mut self, other: &Self) -> Self {
+        self.sheets += other.sheets;
+        self.accepted_sheets += other.accepted_sheets;
+        self.accepted_cars += other.accepted_cars;
+        for (here, there) in self.refusals.iter_mut().zip(other.refusals) {
+            *here += there;
+        }
+        self
+    }
+
     fn add(&mut self, outcome: &Outcome) {
         self.sheets += 1;
         match outcome.number {
