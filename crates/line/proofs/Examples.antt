@@ -5,6 +5,7 @@ use mathlib.Core.List.{List, [], _∷_}
 use lib.ListN.{replicate}
 use Rattle.field.specs.Field.{seenTo, fieldAt, justified, fieldOf}
 use Rattle.reading.specs.declared.letter.Letter.the-variants.{Row, Car}
+use Rattle.reading.specs.declared.Reading.the-variants.{Refused}
 use Rattle.reading.specs.Reading.{letterOf, feed, feedAt, good, values, refusedLine, lineBy, lineAt}
 use Rattle.line.specs.Alone.{readLine}
 use Rattle.line.specs.RoundTrip.{readAs}
@@ -23,8 +24,9 @@ row : lineOf (record { letter = Row; numbers = 1_000 ∷ 20_000 ∷ replicate 12
 unfolding fieldsOf justified fieldOf lineOf
 row = refl
 
--- "E" and the field "      002"
-leading-zero : readLine (69 ∷ 32 ∷ 32 ∷ 32 ∷ 32 ∷ 32 ∷ 32 ∷ 48 ∷ 48 ∷ 50 ∷ 10 ∷ []) ≡ refusedLine 6
+-- "E" and the field "      002"; beside a refusal all numbers are 0
+leading-zero : readLine (69 ∷ 32 ∷ 32 ∷ 32 ∷ 32 ∷ 32 ∷ 32 ∷ 48 ∷ 48 ∷ 50 ∷ 10 ∷ [])
+    ≡ record { reading = Refused 6; numbers = 0 ∷ 0 ∷ 0 ∷ 0 ∷ 0 ∷ 0 ∷ 0 ∷ 0 ∷ 0 ∷ 0 ∷ 0 ∷ 0 ∷ 0 ∷ 0 ∷ [] }
 unfolding seenTo fieldAt letterOf feed feedAt good values lineBy lineAt
 leading-zero = refl
 

@@ -1,7 +1,8 @@
--- Document 01's own sheet and its listing, byte by byte, a line of each to a line here.
+-- Document 01's own sheet and its listing, byte by byte, a line of each to a line here; and what the sheet gives without its last line.
 use Prim.Native.Nat.{ℕ}
 use mathlib.Core.Path.{_≡_}
 use mathlib.Core.List.{List, [], _∷_}
+use lib.ListN.{take}
 use Rattle.grammar.specs.Sheet.{sheetOf}
 use Rattle.grammar.specs.Text.{textOf}
 use Rattle.listing.specs.Listing.{answerLines}
@@ -25,6 +26,14 @@ paperListing =
     ∷ 83 ∷ 32 ∷ 32 ∷ 32 ∷ 32 ∷ 32 ∷ 32 ∷ 32 ∷ 32 ∷ 49 ∷ 32 ∷ 32 ∷ 32 ∷ 32 ∷ 51 ∷ 50 ∷ 50 ∷ 50 ∷ 57 ∷ 32 ∷ 32 ∷ 32 ∷ 32 ∷ 51 ∷ 50 ∷ 48 ∷ 48 ∷ 51 ∷ 10
     ∷ []
 
--- the rules give this listing for this sheet
+-- without its E line: the eighth line has no line feed
+abbrev cutSheet : List ℕ
+cutSheet = take 356 paperSheet
+
+abbrev cutListing : List ℕ
+cutListing = 90 ∷ 32 ∷ 32 ∷ 32 ∷ 32 ∷ 32 ∷ 32 ∷ 32 ∷ 32 ∷ 56 ∷ 32 ∷ 32 ∷ 32 ∷ 32 ∷ 32 ∷ 32 ∷ 32 ∷ 32 ∷ 51 ∷ 10 ∷ []
+
+-- the rules give these listings for these sheets
 pub record PaperExample : Type 0 where
   pub listing : textOf (answerLines (sheetOf paperSheet)) ≡ paperListing
+  pub refused : textOf (answerLines (sheetOf cutSheet)) ≡ cutListing

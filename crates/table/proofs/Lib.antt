@@ -1,3 +1,4 @@
 pub mod Table
+pub mod TablesCard
 pub mod Arrays
 pub mod Rising

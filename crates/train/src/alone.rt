@@ -1,6 +1,7 @@
 // A car worked out alone.
 ghost use mathlib.Core.Path.{_≡_};
 ghost use Rattle.table.specs.Layout.{tablesOf};
+ghost use Rattle.table.specs.TablesCard.{TablesRight};
 ghost use Rattle.car.specs.Car.{measured, aloneAnswer, carTold};
 ghost use Rattle.train.specs.Demand3.{Close, InOrder};
 ghost use Rattle.car.specs.Card.{AllRight};
@@ -23,7 +24,7 @@ pub fn work_out(
         (carTold r ≡ aloneAnswer (tablesOf d (now (levels .entry)) (now (capacities .entry))) car)
         × Close (tablesOf d (now (levels .entry)) (now (capacities .entry))) (measured car) (carTold r)
         × InOrder (tablesOf d (now (levels .entry)) (now (capacities .entry))) (measured car) (carTold r)
-        × AllRight × OperationsRight × ExactRight × OrderExample
+        × AllRight × OperationsRight × TablesRight × ExactRight × OrderExample
         ⌝ }
 {
     let by_tables = table::check_tables(d, levels, capacities);

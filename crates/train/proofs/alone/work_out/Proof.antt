@@ -7,6 +7,8 @@ use denote.Ref.{now}
 use Rattle.base.specs.Answer.{Answer, refusal}
 use Rattle.table.specs.Table.{Table}
 use Rattle.table.specs.Layout.{tablesOf}
+use Rattle.table.specs.TablesCard.{TablesRight}
+use Rattle.table.proofs.TablesCard.{tables-right}
 use Rattle.table.specs.Inner.{Good}
 use Rattle.table.proofs.Arrays.{good-tables}
 use Rattle.car.specs.declared.Car.{Car}
@@ -30,8 +32,8 @@ abbrev all : tie.Start → List Table
 all s = tablesOf (s .args .d) (now (s .args .levels)) (now (s .args .capacities))
 
 -- the other clauses from the first
-whole : (ts : List Table) (c : Car) (a : Answer) → a ≡ aloneAnswer ts c → (a ≡ aloneAnswer ts c) × Close ts (measured c) a × InOrder ts (measured c) a × AllRight × OperationsRight × ExactRight × OrderExample
-whole ts c a e = (e, rw e (close ts (measured c) (aloneAnswer ts c) (alone c)), rw e (in-order ts (measured c) (aloneAnswer ts c) (alone c)), all-right, operations-right, exact-right, order-example)
+whole : (ts : List Table) (c : Car) (a : Answer) → a ≡ aloneAnswer ts c → (a ≡ aloneAnswer ts c) × Close ts (measured c) a × InOrder ts (measured c) a × AllRight × OperationsRight × TablesRight × ExactRight × OrderExample
+whole ts c a e = (e, rw e (close ts (measured c) (aloneAnswer ts c) (alone c)), rw e (in-order ts (measured c) (aloneAnswer ts c) (alone c)), all-right, operations-right, tables-right, exact-right, order-example)
 
 good : (c : tie.Else1) → let a = c .before .before .args in Good (a .d) (now (a .levels)) (now (a .capacities))
 good c = good-tables (sym (c .before .check-tables .ensures) ∙ c .if1 .left)
