@@ -1,5 +1,3 @@
 pub mod Copying
 pub mod Handed
-pub mod Lengths
-pub mod Trains
 pub mod Written

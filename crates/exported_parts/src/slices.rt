@@ -7,10 +7,10 @@ ghost use Rattle.table.specs.Layout.{places};
 use table::PLACES;
 
 // A lent slice has not the length that is asked for.
-pub(crate) const BAD_LENGTH: u32 = 1_000;
+pub const BAD_LENGTH: u32 = 1_000;
 
 // Copies all of a slice into another, from `at` on.
-pub(crate) fn copy_at(from: &[u32], to: &mut [u32], at: usize)
+pub fn copy_at(from: &[u32], to: &mut [u32], at: usize)
     requires { ⌜ at + length (now from) ≤ length (now to) ⌝ }
     ensures { λ _. ⌜ now (to .exit) ≡ put (now (to .entry)) at (now (from .entry)) ⌝ }
 {
@@ -22,7 +22,7 @@ pub(crate) fn copy_at(from: &[u32], to: &mut [u32], at: usize)
 }
 
 // Copies a slice into one of the same length.
-pub(crate) fn copy(from: &[u32], to: &mut [u32])
+pub fn copy(from: &[u32], to: &mut [u32])
     requires { ⌜ length (now from) ≡ length (now to) ⌝ }
     ensures { λ _. ⌜ now (to .exit) ≡ now (from .entry) ⌝ }
 {
@@ -30,7 +30,7 @@ pub(crate) fn copy(from: &[u32], to: &mut [u32])
 }
 
 // A slice of four numbers.
-pub(crate) fn four(from: &[u32]) -> [u32; 4]
+pub fn four(from: &[u32]) -> [u32; 4]
     requires { ⌜ length (now from) ≡ 4 ⌝ }
     ensures { λ r. ⌜ r ≡ now (from .entry) ⌝ }
 {
@@ -40,7 +40,7 @@ pub(crate) fn four(from: &[u32]) -> [u32; 4]
 }
 
 // A slice of levels or capacities, of all places of four tables.
-pub(crate) fn all_places(from: &[u32]) -> [u32; PLACES]
+pub fn all_places(from: &[u32]) -> [u32; PLACES]
     requires { ⌜ length (now from) ≡ places ⌝ }
     ensures { λ r. ⌜ r ≡ now (from .entry) ⌝ }
 {

@@ -1,0 +1,213 @@
+// A car worked out alone, and the running train.
+ghost use mathlib.Core.Path.{_≡_};
+ghost use Prim.Native.Nat.{_+_, _*_};
+ghost use lib.ListN.{length};
+ghost use Rattle.reading.specs.Letter.{mostFields};
+ghost use Rattle.car.specs.Car.{carOf, aloneAnswer, carTold};
+ghost use Rattle.train.specs.Train.{emptyTrain, enterAnswer, enterTrain};
+ghost use Rattle.base.specs.Answer.{figures};
+ghost use Rattle.exported_parts.specs.Handed.{lengthIs, sized, Handed, figuresLeft};
+ghost use Rattle.exported_cars.specs.Layout.{
+  tablesLent,
+  carSized,
+  trainSized,
+  figureCount,
+  joined,
+  trainPlaces,
+  trainOf,
+  trainNumbers,
+  TrainHanded,
+};
+use crate::tables;
+use base::MOST_CARS;
+use car::Car;
+use car::CarAnswer;
+use exported_parts::BAD_LENGTH;
+use reading::MOST_FIELDS;
+use thermal::Density15;
+use train::Train;
+
+// How many numbers an accepted car shows.
+const FIGURES: usize = 6;
+
+// A train in a slice: six counts, which are its accepted cars, gross and net in kg, each as a low and a high half of 32 bits,
+// and how many numbers it holds; then a place for each of these.
+const COUNT_PLACES: usize = 6;
+
+const TRAIN_PLACES: usize = COUNT_PLACES + MOST_CARS;
+
+const HALF: u64 = 4_294_967_296;
+
+// Whether the slices of a car, its tables and its figures have the lengths that they must have.
+fn car_fits(
+    types: &[u32],
+    rows: &[u32],
+    levels: &[u32],
+    capacities: &[u32],
+    car: &[u32],
+    figures: &[u32],
+) -> bool
+    ensures { λ r. ⌜ r ≡ carSized (now (types .entry)) (now (rows .entry)) (now (levels .entry)) (now (capacities .entry)) (now (car .entry)) (now (figures .entry)) ⌝ }
+{
+    if car.len() != MOST_FIELDS {
+        return false;
+    }
+    if figures.len() != FIGURES {
+        return false;
+    }
+    tables::tables_fit(types, rows, levels, capacities)
+}
+
+// A car by the fourteen numbers of its C line.
+fn car_of(numbers: &[u32]) -> Car
+    requires { ⌜ length (now numbers) ≡ mostFields ⌝ }
+    ensures { λ r. ⌜ r ≡ carOf (now (numbers .entry)) ⌝ }
+{
+    Car {
+        number: numbers[0],
+        kind: numbers[1],
+        grade: numbers[2],
+        stick: numbers[3],
+        count: numbers[4],
+        readings: [numbers[5], numbers[6], numbers[7], numbers[8]],
+        water_level: numbers[9],
+        temperature: numbers[10],
+        density: Density15(numbers[11]),
+        water: numbers[12],
+        impurities: numbers[13],
+    }
+}
+
+// A number by its halves of 32 bits.
+fn joined(low: u32, high: u32) -> u64
+    ensures { λ r. ⌜ r ≡ joined low high ⌝ }
+{
+    low as u64 + HALF * high as u64
+}
+
+// The train that lies in a slice.
+fn train_of(numbers: &[u32]) -> Train
+    requires { ⌜ length (now numbers) ≡ trainPlaces ⌝ }
+    ensures { λ r. ⌜ r ≡ trainOf (now (numbers .entry)) ⌝ }
+{
+    let mut held = [0u32; MOST_CARS];
+    exported_parts::copy(&numbers[COUNT_PLACES..], &mut held);
+    Train {
+        accepted: numbers[0],
+        gross: joined(numbers[1], numbers[2]),
+        net: joined(numbers[3], numbers[4]),
+        held: numbers[5],
+        numbers: held,
+    }
+}
+
+// Writes a train into its slice.
+fn write_train(train: Train, to: &mut [u32])
+    requires { ⌜ length (now to) ≡ trainPlaces ⌝ }
+    ensures { λ _. ⌜ now (to .exit) ≡ trainNumbers train ⌝ }
+{
+    let counts = [
+        train.accepted,
+        (train.gross % HALF) as u32,
+        (train.gross / HALF) as u32,
+        (train.net % HALF) as u32,
+        (train.net / HALF) as u32,
+        train.held,
+    ];
+    exported_parts::copy_at(&counts, to, 0);
+    let numbers = train.numbers;
+    exported_parts::copy_at(&numbers, to, COUNT_PLACES);
+}
+
+// Hands a car's answer over: its six figures, or the refusal.
+fn hand_over(answer: CarAnswer, figures: &mut [u32]) -> u32
+    requires { ⌜ length (now figures) ≡ figureCount ⌝ }
+    ensures { λ r. ⌜ Handed figuresLeft (carTold answer) r (now (figures .entry)) (now (figures .exit)) ⌝ }
+{
+    match answer {
+        CarAnswer::Accepted(f) => {
+            let six = [f.number, f.level, f.v0, f.v15, f.gross, f.net];
+            exported_parts::copy(&six, figures);
+            0
+        }
+        CarAnswer::Refused(number) => number,
+    }
+}
+
+// A car worked out alone: its six figures.
+#[no_mangle]
+pub extern "C" fn rack_work_out(
+    count: u32,
+    types: &[u32],
+    rows: &[u32],
+    levels: &[u32],
+    capacities: &[u32],
+    car: &[u32],
+    figures: &mut [u32],
+) -> u32
+    ensures { λ r. ⌜ Handed figuresLeft (sized
+        (carSized (now (types .entry)) (now (rows .entry)) (now (levels .entry)) (now (capacities .entry)) (now (car .entry)) (now (figures .entry)))
+        (aloneAnswer (tablesLent count (now (types .entry)) (now (rows .entry)) (now (levels .entry)) (now (capacities .entry))) (carOf (now (car .entry)))))
+        r (now (figures .entry)) (now (figures .exit)) ⌝ }
+{
+    if car_fits(types, rows, levels, capacities, car, figures) {
+        let d = tables::directory_of(count, types, rows);
+        let level_places = exported_parts::all_places(levels);
+        let capacity_places = exported_parts::all_places(capacities);
+        let answer = train::work_out(d, &level_places, &capacity_places, car_of(car));
+        return hand_over(answer, figures);
+    }
+    BAD_LENGTH
+}
+
+// The empty train.
+#[no_mangle]
+pub extern "C" fn rack_train_empty(train: &mut [u32]) -> u32
+    ensures { λ r. ⌜ Handed figuresLeft (sized (lengthIs trainPlaces (now (train .entry))) (figures (trainNumbers emptyTrain))) r (now (train .entry)) (now (train .exit)) ⌝ }
+{
+    if train.len() != TRAIN_PLACES {
+        return BAD_LENGTH;
+    }
+    write_train(Train::empty(), train);
+    0
+}
+
+// A car entered in a train with its tables: its six figures, and the train to hand in with the next.
+#[no_mangle]
+pub extern "C" fn rack_train_enter(
+    train: &mut [u32],
+    count: u32,
+    types: &[u32],
+    rows: &[u32],
+    levels: &[u32],
+    capacities: &[u32],
+    car: &[u32],
+    figures: &mut [u32],
+) -> u32
+    ensures { λ r. ⌜
+        Handed figuresLeft (sized
+        (trainSized (now (train .entry)) (now (types .entry)) (now (rows .entry)) (now (levels .entry)) (now (capacities .entry)) (now (car .entry)) (now (figures .entry)))
+        (enterAnswer (tablesLent count (now (types .entry)) (now (rows .entry)) (now (levels .entry)) (now (capacities .entry))) (trainOf (now (train .entry))) (carOf (now (car .entry)))))
+        r (now (figures .entry)) (now (figures .exit))
+        × TrainHanded
+        (trainSized (now (train .entry)) (now (types .entry)) (now (rows .entry)) (now (levels .entry)) (now (capacities .entry)) (now (car .entry)) (now (figures .entry)))
+        (enterTrain (tablesLent count (now (types .entry)) (now (rows .entry)) (now (levels .entry)) (now (capacities .entry))) (trainOf (now (train .entry))) (carOf (now (car .entry))))
+        (now (train .entry)) (now (train .exit))
+        ⌝ }
+{
+    if train.len() != TRAIN_PLACES {
+        return BAD_LENGTH;
+    }
+    if car_fits(types, rows, levels, capacities, car, figures) {
+        let d = tables::directory_of(count, types, rows);
+        let level_places = exported_parts::all_places(levels);
+        let capacity_places = exported_parts::all_places(capacities);
+        let running = train_of(train);
+        let step = running.enter(d, &level_places, &capacity_places, car_of(car));
+        let next = step.train;
+        write_train(next, train);
+        let answer = step.answer;
+        return hand_over(answer, figures);
+    }
+    BAD_LENGTH
+}
