@@ -1,3 +1,4 @@
 pub mod Copying
 pub mod Handed
 pub mod Written
+pub mod Examples

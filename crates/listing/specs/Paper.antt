@@ -5,7 +5,7 @@ use mathlib.Core.List.{List, [], _∷_}
 use lib.ListN.{take}
 use Rattle.grammar.specs.Sheet.{sheetOf}
 use Rattle.grammar.specs.Text.{textOf}
-use Rattle.listing.specs.Listing.{answerLines}
+use Rattle.listing.specs.Listing.{answerLines, replyOf}
 
 unfoldable pub paperSheet : List ℕ
 paperSheet =
@@ -33,7 +33,10 @@ cutSheet = take 356 paperSheet
 abbrev cutListing : List ℕ
 cutListing = 90 ∷ 32 ∷ 32 ∷ 32 ∷ 32 ∷ 32 ∷ 32 ∷ 32 ∷ 32 ∷ 56 ∷ 32 ∷ 32 ∷ 32 ∷ 32 ∷ 32 ∷ 32 ∷ 32 ∷ 32 ∷ 51 ∷ 10 ∷ []
 
--- the rules give these listings for these sheets
+-- the rules give these listings for these sheets, and hand back these lengths and numbers; a buffer of 3,388 bytes is too short
 pub record PaperExample : Type 0 where
   pub listing : textOf (answerLines (sheetOf paperSheet)) ≡ paperListing
   pub refused : textOf (answerLines (sheetOf cutSheet)) ≡ cutListing
+  pub reply : replyOf paperSheet 3_389 ≡ record { length = 105; number = 0 }
+  pub refused-reply : replyOf cutSheet 3_389 ≡ record { length = 20; number = 3 }
+  pub short : replyOf paperSheet 3_388 ≡ record { length = 0; number = 1 }
