@@ -24,7 +24,8 @@ card =
     ∷ gives (allowanceAnswer (inUnits 3_001)) (figures (75 ∷ []))
     ∷ gives (allowanceAnswer (inUnits 3_600)) (figures (75 ∷ []))
     ∷ gives (allowanceAnswer (inUnits 3_601)) (refusal 16)
-    -- the mean level: 14 before 15 and before 16
+    -- the mean level: a half goes up whichever reading is greater; 14 before 15 and before 16
+    ∷ gives (meanLevelAnswer 2 (1_501 ∷ 1_500 ∷ 0 ∷ 0 ∷ [])) (figures (1_501 ∷ []))
     ∷ gives (meanLevelAnswer 2 (1_500 ∷ 1_502 ∷ 1 ∷ 0 ∷ [])) (refusal 14)
     ∷ gives (meanLevelAnswer 1 (0 ∷ 0 ∷ 0 ∷ 0 ∷ [])) (refusal 14)
     ∷ gives (meanLevelAnswer 2 (1_500 ∷ 1_502 ∷ 0 ∷ 0 ∷ [])) (refusal 15)

@@ -15,8 +15,8 @@ use Rattle.train.specs.Train.{full, admissionTests, enterTests, enterAnswer, en
 use Rattle.grammar.specs.Sheet.{tableLine, rowLine, carLine, endLine, stepOf, lines, sheetOf}
 use Rattle.grammar.specs.Text.{textOf}
 use Rattle.listing.specs.Listing.{replyOf}
-use Rattle.listing.specs.Paper.{paperSheet, paperListing, PaperExample}
+use Rattle.listing.specs.Paper.{paperSheet, paperListing, smallSheet, PaperExample}
 
 pub paper-example : PaperExample
-unfolding paperSheet paperListing textOf replyOf rounded seenTo fieldAt justified fieldOf letterOf feed feedAt good values lineBy lineAt fieldsOf lineOf meanLevel unusedBad disagree interpolated capacityAt capacity.v0 thermal.expansion thermal.exponent thermal.term thermal.series thermal.factor thermal.densityAt steps.stickCoefficient steps.hotVolume steps.coldVolume steps.gross steps.net steps.volume15Of steps.grossOf steps.netOf measuredTests v0 mass sixFigures carTests full admissionTests enterTests enterAnswer enterTrain tableLine rowLine carLine endLine stepOf lines sheetOf
-paper-example = record { listing = refl; refused = refl; reply = refl; refused-reply = refl; short = refl }
+unfolding paperSheet paperListing smallSheet textOf replyOf rounded seenTo fieldAt justified fieldOf letterOf feed feedAt good values lineBy lineAt fieldsOf lineOf meanLevel unusedBad disagree interpolated capacityAt capacity.v0 thermal.expansion thermal.exponent thermal.term thermal.series thermal.factor thermal.densityAt steps.stickCoefficient steps.hotVolume steps.coldVolume steps.gross steps.net steps.volume15Of steps.grossOf steps.netOf measuredTests v0 mass sixFigures carTests full admissionTests enterTests enterAnswer enterTrain tableLine rowLine carLine endLine stepOf lines sheetOf
+paper-example = record { listing = refl; no-cars = refl; refused = refl; reply = refl; refused-reply = refl; short = refl }
