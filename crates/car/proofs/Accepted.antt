@@ -1,17 +1,17 @@
 -- What holds of a car that neither its tables nor its own tests turn away: fields and levels are in range, and nothing is cut off.
 use Prim.Native.Nat.{ℕ, _≤_, _<_}
-use mathlib.Core.Path.{_≡_}
+use mathlib.Core.Path.{_≡_, refl}
 use mathlib.Core.Bool.{false}
-use mathlib.Core.List.{List, _++_}
+use mathlib.Core.List.{List, [], _∷_, _++_}
 use native.Mathlib.Nat.{le-of-lt}
 use native.Mathlib.Omega.{arith}
 use lib.Dec.{eqb}
 use borrow.Author.Tests.{ltb-false, leb-false, eqb-false}
 use Rattle.base.specs.Limits.{inUnits}
-use Rattle.base.specs.Answer.{Test, accepts, first}
+use Rattle.base.specs.Answer.{Test, accepts, refuses, first}
 use Rattle.base.proofs.Choice.{neither}
 use Rattle.base.proofs.Answer.{not-applied, accepted-parts}
-use Rattle.level.specs.Level.{readingsTests}
+use Rattle.level.specs.Level.{unusedBad, readingsTests}
 use Rattle.table.specs.Table.{Table, tablesVerdict, unknown, lastLevel}
 use Rattle.table.proofs.Rising.{Rising, tables-rising}
 use Rattle.capacity.specs.Capacity.{above, levelTests}
@@ -26,8 +26,14 @@ use Rattle.mass.proofs.Uncut.{nothing-cut}
 use Rattle.car.specs.declared.Car.{Car}
 use Rattle.car.specs.declared.Measured.{Measured}
 use Rattle.car.specs.Measured.{rows, earlyTests, lateTests, measuredTests, v0}
-use Rattle.car.specs.Car.{measured, carTests}
+use Rattle.car.specs.Car.{carOf, measured, carTests}
+use Rattle.car.specs.Card.{cardTables}
 use Rattle.car.specs.Exact.{volumeˣ, Uncut}
+
+-- a figure beside the law, which a list without the readings' tests, or with these behind 16, refuses: three readings, all 0
+fourteen-first : first (carTests cardTables (carOf (1 ∷ 1 ∷ 3 ∷ 1 ∷ 3 ∷ 0 ∷ 0 ∷ 0 ∷ 0 ∷ 0 ∷ 600 ∷ 9_500 ∷ 50 ∷ 20 ∷ []))) ≡ refuses 14
+unfolding carTests measuredTests unusedBad
+fourteen-first = refl
 
 -- no refusal of the tables applies, nor 12, 13 or 16 to 21
 pub record Passed (ts : List Table) (m : Measured) : Type 0 where

@@ -14,7 +14,8 @@ use Rattle.grades.specs.Grades.{codeTests, oilTests}
 use Rattle.car.specs.declared.Car.{Car}
 use Rattle.car.specs.declared.Measured.{Measured}
 use Rattle.car.specs.Measured.{rows, earlyTests, lateTests, measuredTests, v0, figuresFrom, sixFigures}
-use Rattle.car.specs.Car.{numberTests, measured, carTests, figuresOf, ownAnswer, aloneTests, aloneAnswer}
+use Rattle.car.specs.Card.{cardTables}
+use Rattle.car.specs.Car.{carOf, numberTests, measured, carTests, figuresOf, ownAnswer, aloneTests, aloneAnswer}
 
 -- the answer by an equal verdict
 by-verdict : (values : List ℕ) {v w : Verdict} → w ≡ v → answer v values ≡ answer w values
@@ -71,6 +72,11 @@ module _ (ts : List Table) (m : Measured) (number : ℕ) (early : first (earlyTe
         let p = answer-figures (first (volumeTests ts (m .kind) (m .level) (m .«water_level»))) (sym (ap volumeTold h) ∙ e) in
         let shown : v ≡ v0 ts m = let q = p .1 in cc in
         rw shown (by-verdict (figuresFrom number m (v0 ts m)) (accepted-append ofOil atLevel (sym from-volume ∙ p .0)))
+
+-- a figure beside the laws, which a list without 10 refuses: a car alone with the number 0
+ten-alone : first (aloneTests cardTables (carOf (0 ∷ 1 ∷ 3 ∷ 1 ∷ 2 ∷ 1_500 ∷ 1_500 ∷ 0 ∷ 0 ∷ 0 ∷ 600 ∷ 9_500 ∷ 50 ∷ 20 ∷ []))) ≡ refuses 10
+unfolding aloneTests
+ten-alone = refl
 
 -- A car alone: its tables, its number, then its own tests.
 module _ (ts : List Table) (c : Car) where

@@ -188,7 +188,10 @@ card =
     ∷ refused 12 (withCodes 2 0 1)
     ∷ refused 13 (50_000_001 ∷ 1 ∷ 0 ∷ 1 ∷ 3 ∷ 1_500 ∷ 1_500 ∷ 0 ∷ 0 ∷ 0 ∷ 600 ∷ 9_500 ∷ 50 ∷ 20 ∷ [])
     ∷ refused 14 (withDip 2 1_500 1_502 1 0 0)
+    ∷ refused 14 (withDip 3 0 0 0 0 0)
     ∷ refused 15 (withDip 2 3_001 3_003 0 0 0)
+    -- 9,003, 9,005 and the two unused 0s: by step 1 their mean level is 3,001
+    ∷ refused 15 (withDip 2 9_003 9_005 0 0 0)
     ∷ refused 16 (withDip 2 3_001 3_001 0 0 3_001)
     ∷ refused 17 (50_000_001 ∷ 1 ∷ 3 ∷ 1 ∷ 2 ∷ 1_500 ∷ 1_500 ∷ 0 ∷ 0 ∷ 1_500 ∷ 399 ∷ 9_500 ∷ 50 ∷ 20 ∷ [])
     ∷ refused 18 (withOil 3 399 8_999 50 20)

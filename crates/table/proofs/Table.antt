@@ -13,6 +13,11 @@ use Rattle.base.proofs.Numbers.{inside}
 use Rattle.base.proofs.Answer.{numbered, numbered-append, accepted-append, accepted-parts}
 use Rattle.table.specs.Table.{Row, rowOf, Table, tableLineBad, firstRowBad, laterRowBad, rowBad, laterTests, rowsTests, tablesTestsAfter, tablesTests, tablesVerdict, unknown, rowsOf}
 
+-- a figure beside the laws, line by line: a bad row of the first table comes before a bad type of the second
+row-before-type :
+    tablesVerdict (record { kind = 1; rows = rowOf 0 0 ∷ rowOf 0 1 ∷ [] } ∷ record { kind = 0; rows = rowOf 0 0 ∷ rowOf 1 1 ∷ [] } ∷ []) ≡ refuses 8
+row-before-type = refl
+
 -- Each test has the number of a refusal.
 
 later-numbered : (before : Row) (rows : List Row) → numbered (laterTests before rows) ≡ true

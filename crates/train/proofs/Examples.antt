@@ -31,4 +31,4 @@ order-example = record {
 
 pub enter-order : EnterOrder
 unfolding enteredCars full admissionTests enterTests enterAnswer carTests measuredTests
-enter-order = record { each = (refl, (refl, (refl, (refl, (refl, (refl, (refl, (refl, (refl, (refl, tt)))))))))) }
+enter-order = record { each = (refl, (refl, (refl, (refl, (refl, (refl, (refl, (refl, (refl, (refl, (refl, tt))))))))))) }

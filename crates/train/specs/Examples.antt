@@ -68,9 +68,9 @@ pub record OrderExample : Type 0 where
 
 -- 3. Two faults of a car entered in a train that is handed in: the first in the list is given.
 
--- a train that holds a number, with so many accepted cars and totals
-abbrev trainOf : ℕ → ℕ → ℕ → ℕ → Train
-trainOf accepted total held number = record { accepted = accepted; gross = total; net = total; held = held; numbers = number ∷ replicate 59 0 }
+-- a train that holds a number, with so many accepted cars, gross and net
+abbrev trainOf : ℕ → ℕ → ℕ → ℕ → ℕ → Train
+trainOf accepted gross net held number = record { accepted = accepted; gross = gross; net = net; held = held; numbers = number ∷ replicate 59 0 }
 
 pub record Entered : Type 0 where
   pub answer : Answer
@@ -82,17 +82,18 @@ on ts t c n = record { answer = enterAnswer ts t c; expected = n }
 unfoldable pub enteredCars : List Entered
 enteredCars =
     -- 8 before 9, 9 before 10, 10 before 11 (of numbers that no list of cars holds), 11 before 12
-    on badTables (trainOf 0 0 mostCars 1) (exampleCar 0 1 600) 8
-    ∷ on cardTables (trainOf 0 0 mostCars 1) (exampleCar 0 1 600) 9
-    ∷ on cardTables (trainOf 0 0 1 0) (exampleCar 0 1 600) 10
-    ∷ on cardTables (trainOf 0 0 1 100_000_000) (exampleCar 100_000_000 1 600) 10
-    ∷ on cardTables (trainOf 0 0 1 5) (exampleCar 5 2 600) 11
+    on badTables (trainOf 0 0 0 mostCars 1) (exampleCar 0 1 600) 8
+    ∷ on cardTables (trainOf 0 0 0 mostCars 1) (exampleCar 0 1 600) 9
+    ∷ on cardTables (trainOf 0 0 0 1 0) (exampleCar 0 1 600) 10
+    ∷ on cardTables (trainOf 0 0 0 1 100_000_000) (exampleCar 100_000_000 1 600) 10
+    ∷ on cardTables (trainOf 0 0 0 1 5) (exampleCar 5 2 600) 11
     -- 9: sixty numbers, more than sixty accepted cars, a total above 12,000,000 kg; what is just not so goes on to 12
-    ∷ on cardTables (trainOf 0 0 59 1) (exampleCar 5 2 600) 12
-    ∷ on cardTables (trainOf 61 0 1 1) (exampleCar 5 2 600) 9
-    ∷ on cardTables (trainOf 60 0 1 1) (exampleCar 5 2 600) 12
-    ∷ on cardTables (trainOf 1 12_000_001 1 1) (exampleCar 5 2 600) 9
-    ∷ on cardTables (trainOf 1 12_000_000 1 1) (exampleCar 5 2 600) 12
+    ∷ on cardTables (trainOf 0 0 0 59 1) (exampleCar 5 2 600) 12
+    ∷ on cardTables (trainOf 61 0 0 1 1) (exampleCar 5 2 600) 9
+    ∷ on cardTables (trainOf 60 0 0 1 1) (exampleCar 5 2 600) 12
+    ∷ on cardTables (trainOf 1 12_000_001 12_000_000 1 1) (exampleCar 5 2 600) 9
+    ∷ on cardTables (trainOf 1 12_000_000 12_000_001 1 1) (exampleCar 5 2 600) 9
+    ∷ on cardTables (trainOf 1 12_000_000 12_000_000 1 1) (exampleCar 5 2 600) 12
     ∷ []
 
 pub record EnterOrder : Type 0 where
