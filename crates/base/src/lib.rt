@@ -37,6 +37,7 @@ pub fn wide(x: u32) -> u64
     x as u64
 }
 
+// The lesser of two numbers.
 pub fn lesser(a: usize, b: usize) -> usize
     ensures { λ r. ⌜ r ≡ min a b ⌝ }
 {

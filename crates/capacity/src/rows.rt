@@ -1,7 +1,7 @@
 // The rows of one table: those that a level passes, and the capacity between two. Rows are in mm and dm³, a level is in units, of
 // which LEVEL_UNITS make a millimetre.
 ghost use mathlib.Core.Path.{_≡_};
-ghost use Prim.Native.Nat.{_+_, _≤_, _<_, min};
+ghost use Prim.Native.Nat.{_+_, _≤_, _<_};
 ghost use Rattle.base.specs.Limits.{inUnits};
 ghost use Rattle.table.specs.Layout.{places};
 ghost use Rattle.capacity.specs.Capacity.{interpolated};

@@ -63,6 +63,7 @@ fn four_digits(least: u32, a: u8, b: u8, c: u8, d: u8) -> u32
     NO_NUMBER
 }
 
+// Whether a column holds no digit.
 fn not_digit(b: u8) -> bool
     ensures { λ r. ⌜ (r ≡ false → (48 ≤ b) × (b ≤ 57)) ⌝ }
 {
