@@ -29,7 +29,7 @@ fn main() -> ExitCode {
     };
 
     let workers = std::thread::available_parallelism().map_or(1, |cores| cores.get() as u64);
-    let compared = std::thread::scope(|scope| {
+    let tallies: Option<Vec<Tally>> = std::thread::scope(|scope| {
         let started: Vec<_> = (0..workers)
             .map(|worker| {
                 let places = (worker..count).step_by(workers as usize);
@@ -38,7 +38,6 @@ fn main() -> ExitCode {
             .collect();
         started.into_iter().map(|worker| worker.join().expect("a worker ends")).collect()
     });
-    let tallies: Option<Vec<Tally>> = compared;
     let Some(tallies) = tallies else {
         return ExitCode::FAILURE;
     };
