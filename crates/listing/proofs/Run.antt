@@ -1,19 +1,18 @@
 -- The loop over the cars of a sheet: what is written and what is still to be written make the whole listing.
 use Prim.Native.Nat.{ℕ, _+_, _-_, _*_, _≤_, _<_}
-use mathlib.Core.Path.{_≡_, refl, ap, ap₂, sym, _∙_}
+use mathlib.Core.Path.{_≡_, refl, ap, _∙_}
 use mathlib.Core.Bool.{true}
-use mathlib.Core.List.{List, [], _∷_, _++_, append-nil}
+use mathlib.Core.List.{List, [], _∷_, append-nil}
 use native.Mathlib.Omega.{arith}
 use lib.ListN.{length, getD, take, drop, length-append}
 use Rattle.base.specs.Limits.{largest, mostCars}
 use Rattle.base.specs.Answer.{accepts}
 use Rattle.base.specs.Buffer.{put}
-use Rattle.base.proofs.Buffer.{put-put}
 use Rattle.reading.specs.declared.letter.Line.{Line}
 use Rattle.reading.specs.declared.letter.Letter.the-variants.{CarAccepted, Totals}
 use Rattle.reading.specs.Letter.{widthOf}
 use Rattle.line.specs.Writing.{lineOf, writable}
-use Rattle.line.proofs.Bytes.{small-at, length-lineOf, can-write}
+use Rattle.line.proofs.Bytes.{small-at, length-lineOf}
 use Rattle.table.specs.Table.{Table, tablesVerdict}
 use Rattle.table.proofs.Arrays.{one-left, none-left}
 use Rattle.car.specs.Measured.{gross, net}
@@ -26,17 +25,22 @@ use Rattle.train.proofs.Book.{train-low}
 use Rattle.sheet.specs.Layout.{carsFrom, carsOf}
 use Rattle.grammar.specs.Grammar.{CarNumbers, EachCar}
 use Rattle.sheet.proofs.Arrays.{length-cars}
-use Rattle.mass.specs.Inner.{mostInCar}
 use Rattle.grammar.specs.Text.{textOf}
-use Rattle.listing.specs.Listing.{itemsOf, answerLine, totalsLine, linesFrom, leastBuffer}
-use Rattle.listing.proofs.Lines.{Fit, car-fit, totals-fit}
+use Rattle.listing.specs.Listing.{itemsOf, answerLine, totalsLine, totalsLines, linesFrom, leastBuffer}
+use Rattle.listing.specs.Inner.{Closing}
+use Rattle.listing.proofs.Lines.{Fit, car-fit}
+use Rattle.listing.proofs.Laid.{Laid, none-laid, line-room, line-laid}
 
--- the bytes of the lines of cars from a train on, and of a whole sheet's
-abbrev pub textFrom : Train → List Item → List ℕ
+-- the bytes of the lines of cars from a train on
+abbrev textFrom : Train → List Item → List ℕ
 textFrom t items = textOf (linesFrom t items)
 
+-- the lines of a whole sheet, and their bytes
+abbrev pub sheetLines : List Table → List (List ℕ) → List Line
+sheetLines ts cars = linesFrom emptyTrain (itemsOf ts cars)
+
 abbrev pub sheetText : List Table → List (List ℕ) → List ℕ
-sheetText ts cars = textFrom emptyTrain (itemsOf ts cars)
+sheetText ts cars = textOf (sheetLines ts cars)
 
 -- the car number is one of fourteen that a field holds
 pub number-small : (ns : List ℕ) → CarNumbers ns → getD ns 0 0 ≤ largest
@@ -55,6 +59,11 @@ text-most ts good t (ns ∷ cars) (h, hs) =
     let later : List ℕ = textFrom (enterTrain ts t (carOf ns)) (itemsOf ts cars) in
     omega (arith, length-append (lineOf l) later, length-lineOf l (f .fourteen), f .width, text-most ts good (enterTrain ts t (carOf ns)) cars hs)
 
+-- the least buffer has room for every sheet's
+pub sheet-fits : (ts : List Table) → tablesVerdict ts ≡ accepts → (fields : List ℕ) (cars : ℕ) → cars ≤ mostCars → EachCar (carsOf fields cars)
+    → length (sheetText ts (carsOf fields cars)) ≤ leastBuffer
+sheet-fits ts good fields cars h e = omega (arith, text-most ts good emptyTrain (carsOf fields cars) e, length-cars fields 0 cars)
+
 -- the cars from number i on
 abbrev left : List ℕ → ℕ → ℕ → List (List ℕ)
 left fields cars i = carsFrom fields i (cars - i)
@@ -66,31 +75,28 @@ here fields i = take 14 (drop (14 * i) fields)
 next-car : (fields : List ℕ) (cars i : ℕ) → i < cars → left fields cars i ≡ here fields i ∷ left fields cars (i + 1)
 next-car fields cars i h = ap (carsFrom fields i) (one-left cars i h)
 
--- Where the loop stands: `out` and `at` with the train `running` and the cars from i on, beside the whole listing over the buffer as lent.
+-- Where the loop stands: `out` up to `at`, with the train `running` and the cars from i on, beside the whole listing over the buffer as lent.
 pub record Written (ts : List Table) (fields : List ℕ) (cars : ℕ) (lent out : List ℕ) (running : Train) (at i : ℕ) : Type 0 where
   pub reached : i ≤ cars
-  pub same : length out ≡ length lent
-  pub space : at + room (cars - i) ≤ length out
-  pub bytes : put out at (textFrom running (itemsOf ts (left fields cars i))) ≡ put lent 0 (sheetText ts (carsOf fields cars))
-  pub total : at + length (textFrom running (itemsOf ts (left fields cars i))) ≡ length (sheetText ts (carsOf fields cars))
+  pub laid : Laid lent 0 (sheetLines ts (carsOf fields cars)) out at (linesFrom running (itemsOf ts (left fields cars i)))
   pub train : trainFrom running (itemsOf ts (left fields cars i)) ≡ trainFrom emptyTrain (itemsOf ts (carsOf fields cars))
   pub each : EachCar (left fields cars i)
 
-pub begun : (ts : List Table) (fields : List ℕ) (cars : ℕ) (lent : List ℕ) → cars ≤ mostCars → leastBuffer ≤ length lent → EachCar (carsOf fields cars) → Written ts fields cars lent lent emptyTrain 0 0
-begun ts fields cars lent h k e =
+pub begun : (ts : List Table) (fields : List ℕ) (cars : ℕ) (lent : List ℕ) → EachCar (carsOf fields cars) → Written ts fields cars lent lent emptyTrain 0 0
+begun ts fields cars lent e =
     let z : cars - 0 ≡ cars = omega arith in
     record {
       reached = omega arith;
-      same = refl;
-      space = omega arith;
-      bytes = ap (λ n. put lent 0 (textFrom emptyTrain (itemsOf ts (carsFrom fields 0 n)))) z;
-      total = omega (arith, ap (λ n. length (textFrom emptyTrain (itemsOf ts (carsFrom fields 0 n)))) z);
+      laid = rw z (none-laid lent 0 (sheetLines ts (carsOf fields cars)));
       train = ap (λ n. trainFrom emptyTrain (itemsOf ts (carsFrom fields 0 n))) z;
       each = rw z e;
     }
 
-module _ (ts : List Table) (good : tablesVerdict ts ≡ accepts) (fields : List ℕ) (cars : ℕ) (lent out : List ℕ) (running : Train) (at i : ℕ)
-    (m : Written ts fields cars lent out running at i) where
+module _ (ts : List Table) (good : tablesVerdict ts ≡ accepts) (fields : List ℕ) (cars : ℕ) (lent : List ℕ) (fits : length (sheetText ts (carsOf fields cars)) ≤ length lent)
+    (out : List ℕ) (running : Train) (at i : ℕ) (m : Written ts fields cars lent out running at i) where
+  space : 0 + length (sheetText ts (carsOf fields cars)) ≤ length lent
+  space = omega arith
+
   -- a turn writes the next car's line
   module _ (h : i < cars) where
     abbrev line : Line
@@ -99,46 +105,34 @@ module _ (ts : List Table) (good : tablesVerdict ts ≡ accepts) (fields : List 
     abbrev entered : Train
     entered = enterTrain ts running (carOf (here fields i))
 
+    abbrev later : List Line
+    later = linesFrom entered (itemsOf ts (left fields cars (i + 1)))
+
     these : EachCar (here fields i ∷ left fields cars (i + 1))
     these = rw (next-car fields cars i h) at (m .each)
 
     line-fit : Fit line
     line-fit = car-fit ts running (carOf (here fields i)) good (number-small (here fields i) (these .0))
 
-    pub line-room : writable line at (length out) ≡ true
-    line-room = can-write line at (length out) (omega (arith, line-fit .width, m .space)) (line-fit .small)
+    ahead : Laid lent 0 (sheetLines ts (carsOf fields cars)) out at (line ∷ later)
+    ahead = rw (next-car fields cars i h) at (m .laid)
+
+    pub car-room : writable line at (length out) ≡ true
+    car-room = line-room lent 0 (sheetLines ts (carsOf fields cars)) space out at line later ahead line-fit
 
     pub turn : (l : Line) (running′ : Train) (out′ : List ℕ) (at′ : ℕ) → l ≡ line → running′ ≡ entered → out′ ≡ put out at (lineOf l) → at′ ≡ at + widthOf (l .letter) → length out′ ≡ length out
         → Written ts fields cars lent out′ running′ at′ (i + 1)
-    unfolding textOf
     turn l running′ out′ at′ el er eo ea en =
-        let w : length (lineOf line) ≡ widthOf (line .letter) = length-lineOf line (line-fit .fourteen) in
-        let wl : widthOf (l .letter) ≡ widthOf (line .letter) = ap (λ (x : Line). widthOf (x .letter)) el in
-        let most = line-fit .width in
         let rest : List (List ℕ) = left fields cars (i + 1) in
-        let later : List ℕ = textFrom entered (itemsOf ts rest) in
-        let n : length rest ≡ cars - (i + 1) = length-cars fields (i + 1) (cars - (i + 1)) in
-        let lm = text-most ts good entered rest (these .1) in
-        let sp : at + room (cars - i) ≤ length out = m .space in
-        let ae : at′ ≡ at + length (lineOf line) = ea ∙ ap (λ (k : ℕ). at + k) (wl ∙ sym w) in
-        let now : put out at (lineOf line ++ later) ≡ put lent 0 (sheetText ts (carsOf fields cars)) = rw (next-car fields cars i h) at (m .bytes) in
-        let tot : at + length (lineOf line ++ later) ≡ length (sheetText ts (carsOf fields cars)) = rw (next-car fields cars i h) at (m .total) in
         let tr : trainFrom entered (itemsOf ts rest) ≡ trainFrom emptyTrain (itemsOf ts (carsOf fields cars)) = rw (next-car fields cars i h) at (m .train) in
         record {
           reached = omega arith;
-          same = en ∙ m .same;
-          space = omega arith;
-          bytes =
-              ap (λ (r : Train). put out′ at′ (textFrom r (itemsOf ts rest))) er
-              ∙ ap₂ (λ (o : List ℕ) (a : ℕ). put o a later) (eo ∙ ap (λ (x : Line). put out at (lineOf x)) el) ae
-              ∙ put-put out at (lineOf line) later (omega arith)
-              ∙ now;
-          total = ap₂ (λ (a : ℕ) (r : Train). a + length (textFrom r (itemsOf ts rest))) ae er ∙ omega (arith, tot, length-append (lineOf line) later);
+          laid = rw er (line-laid lent 0 (sheetLines ts (carsOf fields cars)) space out at line later ahead line-fit l out′ at′ el eo ea en);
           train = ap (λ (r : Train). trainFrom r (itemsOf ts rest)) er ∙ tr;
           each = these .1;
         }
 
-  -- behind the last car S is left
+  -- behind the last car the totals are left
   module _ (h : cars ≤ i) where
     none : left fields cars i ≡ []
     none = ap (carsFrom fields i) (none-left cars i h)
@@ -146,21 +140,14 @@ module _ (ts : List Table) (good : tablesVerdict ts ≡ accepts) (fields : List 
     last : running ≡ trainFrom emptyTrain (itemsOf ts (carsOf fields cars))
     last = rw none at (m .train)
 
-    pub totals-low : (running .accepted ≤ mostCars) × (running .gross ≤ mostInCar * mostCars) × (running .net ≤ mostInCar * mostCars)
-    totals-low = let t = train-low (itemsOf ts (carsOf fields cars)) in rw last (t .0, t .1 gross, t .1 net)
+    closing : Laid lent 0 (sheetLines ts (carsOf fields cars)) out at (totalsLines running)
+    closing = rw none at (m .laid)
 
-    sum-fit : Fit (totalsLine running)
-    sum-fit = totals-fit running (totals-low .0) (totals-low .1) (totals-low .2)
+    pub totals-ready : Closing running at (length out)
+    totals-ready =
+        let t = train-low (itemsOf ts (carsOf fields cars)) in
+        record { accepted = rw last (t .0); gross-low = rw last (t .1 gross); net-low = rw last (t .1 net); space = omega (arith, closing .total, closing .same) }
 
-    pub sum-room : writable (totalsLine running) at (length out) ≡ true
-    sum-room = can-write (totalsLine running) at (length out) (omega (arith, m .space)) (sum-fit .small)
-
-    pub ended : (l : Line) (out′ : List ℕ) (r : ℕ) → l ≡ totalsLine running → out′ ≡ put out at (lineOf l) → r ≡ at + widthOf (l .letter)
+    pub ended : (out′ : List ℕ) (r : ℕ) → r ≡ at + length (textOf (totalsLines running)) → out′ ≡ put out at (textOf (totalsLines running))
         → (r ≡ length (sheetText ts (carsOf fields cars))) × (out′ ≡ put lent 0 (sheetText ts (carsOf fields cars)))
-    unfolding textOf
-    ended l out′ r el eo er =
-        let now : put out at (lineOf (totalsLine running)) ≡ put lent 0 (sheetText ts (carsOf fields cars)) = rw (none, append-nil) at (m .bytes) in
-        let tot : at + length (lineOf (totalsLine running)) ≡ length (sheetText ts (carsOf fields cars)) = rw (none, append-nil) at (m .total) in (
-          er ∙ ap (λ (x : Line). at + widthOf (x .letter)) el ∙ ap (λ (k : ℕ). at + k) (sym (length-lineOf (totalsLine running) refl)) ∙ tot,
-          eo ∙ ap (λ (x : Line). put out at (lineOf x)) el ∙ now,
-        )
+    ended out′ r er eo = (omega (arith, er, closing .total), eo ∙ closing .bytes)

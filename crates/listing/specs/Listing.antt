@@ -2,7 +2,7 @@
 use Prim.Native.Nat.{ℕ, _+_, _*_}
 use mathlib.Core.Bool.{cond}
 use mathlib.Core.List.{List, [], _∷_}
-use lib.ListN.{length, getD}
+use lib.ListN.{length}
 use lib.Dec.{ltb}
 use Rattle.base.specs.Limits.{mostCars}
 use Rattle.base.specs.Answer.{Answer, figures, refusal}
@@ -42,9 +42,13 @@ totalsLine t = lineWith Totals (t .accepted ∷ t .gross ∷ t .net ∷ [])
 abbrev pub sheetRefusedLine : ℕ → ℕ → Line
 sheetRefusedLine line number = lineWith SheetRefused (line ∷ number ∷ [])
 
--- a line for each car, entered one after another from a train, then S
+-- what stands behind the cars' lines: S
+abbrev pub totalsLines : Train → List Line
+totalsLines t = totalsLine t ∷ []
+
+-- a line for each car, entered one after another from a train, then its totals
 abbrev pub linesFrom : Train → List Item → List Line
-linesFrom t [] = totalsLine t ∷ []
+linesFrom t [] = totalsLines t
 linesFrom t (i ∷ is) = answerLine (itemNumber i) (answerTo t i) ∷ linesFrom (trainWith t i) is
 
 abbrev pub answerLines : SheetRead → List Line

@@ -15,10 +15,10 @@ ghost use Rattle.grammar.specs.Text.{textOf};
 ghost use Rattle.grammar.specs.Sheet.{sheetOf};
 ghost use Rattle.grammar.specs.ByGrammar.{ReadByGrammar};
 ghost use Rattle.sheet.specs.Layout.{carsOf};
-ghost use Rattle.listing.specs.Listing.{itemsOf, answerLine, totalsLine, sheetRefusedLine, linesFrom, leastBuffer, replyOf, afterAnswer};
+ghost use Rattle.listing.specs.Listing.{itemsOf, answerLine, totalsLine, totalsLines, sheetRefusedLine, linesFrom, leastBuffer, replyOf, afterAnswer};
 ghost use Rattle.listing.specs.Reconciled.{SheetReconciled};
 ghost use Rattle.listing.specs.Paper.{PaperExample};
-ghost use Rattle.listing.specs.Inner.{Ready};
+ghost use Rattle.listing.specs.Inner.{Ready, Closing};
 use base::MOST_CARS;
 use car::Car;
 use car::CarAnswer;
@@ -130,7 +130,18 @@ fn append_line(out: &mut [u8], at: usize, text: Line) -> usize
     }
 }
 
-// Writes the listing: a line for each car, entered one after another, then S. Answers its length.
+// Writes the totals of a train from `at` on, and answers the place behind them.
+fn write_totals(out: &mut [u8], at: usize, train: Train) -> usize
+    requires { ⌜ Closing train at (length (now out)) ⌝ }
+    ensures { λ r. ⌜
+        (r ≡ at + length (textOf (totalsLines train)))
+        × (now (out .exit) ≡ put (now (out .entry)) at (textOf (totalsLines train)))
+        ⌝ }
+{
+    append_line(out, at, totals_line(train))
+}
+
+// Writes the listing: a line for each car, entered one after another, then the totals. Answers its length.
 fn write_listing(
     out: &mut [u8],
     d: Directory,
@@ -156,7 +167,7 @@ fn write_listing(
         at = append_line(out, at, answer_line(car.number, answer));
         i += 1;
     }
-    append_line(out, at, totals_line(running))
+    write_totals(out, at, running)
 }
 
 // Writes the Z line: the line number and the refusal.

@@ -1,18 +1,19 @@
--- `listing::write_listing` meets its contract: each turn writes a car's line, and S comes last.
-use Prim.Native.Nat.{_-_, _*_}
+-- `listing::write_listing` meets its contract: each turn writes a car's line, and the totals come last.
+use Prim.Native.Nat.{_-_, _*_, _≤_}
 use mathlib.Core.Path.{_≡_, ap, _∙_}
 use mathlib.Core.List.{List}
 use native.Mathlib.Omega.{arith}
-use lib.ListN.{take, drop}
+use lib.ListN.{length, take, drop}
 use borrow.Author.Needs.{needs}
 use denote.Ref.{now}
 use Rattle.table.specs.Table.{Table}
 use Rattle.table.specs.Layout.{tablesOf}
+use Rattle.sheet.specs.Layout.{carsOf}
 use Rattle.car.specs.declared.Car.{Car}
 use Rattle.train.specs.Train.{enterAnswer, enterTrain}
 use Rattle.car.specs.Car.{carOf}
 use Rattle.listing.specs.Listing.{answerLine}
-use Rattle.listing.proofs.Run.{Written, begun, line-room, turn, totals-low, sum-room, ended}
+use Rattle.listing.proofs.Run.{sheetText, sheet-fits, Written, begun, car-room, turn, totals-ready, ended}
 use Rattle.listing.proofs.write_listing.Statement.{statement}
 use Rattle.listing.proofs.write_listing.Tie as tie
 
@@ -24,6 +25,10 @@ abbrev μ-loop : tie.MeasureT-loop
 
 abbrev all : tie.Start Inv-loop μ-loop → List Table
 all s = tablesOf (s .args .d) (now (s .args .levels)) (now (s .args .capacities))
+
+-- the whole listing has room
+fits : (s : tie.Start Inv-loop μ-loop) → length (sheetText (all s) (carsOf (now (s .args .fields)) (s .args .cars))) ≤ length (now (s .args .out))
+fits s = omega (arith, sheet-fits (all s) (s .pre .good .accepted) (now (s .args .fields)) (s .args .cars) (s .pre .sixty) (s .pre .each), s .pre .space)
 
 -- the line that a turn writes
 the-line : (c : tie.After-answer-line Inv-loop μ-loop) →
@@ -46,7 +51,7 @@ empty-requires c κs = search needs
 loop-holds : tie.Need-loop-holds Inv-loop μ-loop
 loop-holds c =
     let s = c .before .before in
-    rw (c .empty .ensures .0) (begun (all s) (now (s .args .fields)) (s .args .cars) (now (s .args .out)) (s .pre .sixty) (s .pre .space) (s .pre .each))
+    rw (c .empty .ensures .0) (begun (all s) (now (s .args .fields)) (s .args .cars) (now (s .args .out)) (s .pre .each))
 
 car-at-requires : tie.Need-car-at-requires Inv-loop μ-loop
 car-at-requires c κs =
@@ -65,7 +70,7 @@ append-line-requires c κs =
     let l = t .before in
     let s = l .before .before .before in
     rw (the-line c)
-    (line-room (all s) (s .pre .good .accepted) (now (s .args .fields)) (s .args .cars) (now (s .args .out)) (l .loop .out) (l .loop .running) (l .loop .at) (l .loop .i) (l .loop .inv)
+    (car-room (all s) (s .pre .good .accepted) (now (s .args .fields)) (s .args .cars) (now (s .args .out)) (fits s) (l .loop .out) (l .loop .running) (l .loop .at) (l .loop .i) (l .loop .inv)
     (t .loop-test .taken))
 
 add-i : tie.Need-add-i Inv-loop μ-loop
@@ -83,41 +88,29 @@ loop-again c =
     let t = k .before in
     let l = t .before in
     let s = l .before .before .before in
-    turn (all s) (s .pre .good .accepted) (now (s .args .fields)) (s .args .cars) (now (s .args .out)) (l .loop .out) (l .loop .running) (l .loop .at) (l .loop .i) (l .loop .inv)
+    turn (all s) (s .pre .good .accepted) (now (s .args .fields)) (s .args .cars) (now (s .args .out)) (fits s) (l .loop .out) (l .loop .running) (l .loop .at) (l .loop .i) (l .loop .inv)
     (t .loop-test .taken) (n .answer-line .result) (e .enter-on .result .train) (w .append-line .last .0) (w .append-line .result) (the-line n)
     (e .enter-on .ensures .1 ∙ ap (enterTrain (all s) (l .loop .running)) (k .car-at .ensures)) (w .append-line .ensures .1) (w .append-line .ensures .0) (w .append-line .kept .0)
 
-totals-line-requires : tie.Need-totals-line-requires Inv-loop μ-loop
-totals-line-requires c κs =
+write-totals-requires : tie.Need-write-totals-requires Inv-loop μ-loop
+write-totals-requires c κs =
     let t = c .before in
     let l = t .before in
     let s = l .before .before .before in
-    let low =
-    totals-low (all s) (s .pre .good .accepted) (now (s .args .fields)) (s .args .cars) (now (s .args .out)) (l .loop .out) (l .loop .running) (l .loop .at) (l .loop .i) (l .loop .inv)
-    (t .loop-test .left) in
-    (omega (arith, low .1), omega (arith, low .2))
-
-append-line-requires-2 : tie.Need-append-line-requires-2 Inv-loop μ-loop
-append-line-requires-2 c κs =
-    let t = c .before .before in
-    let l = t .before in
-    let s = l .before .before .before in
-    rw (c .totals-line .ensures)
-    (sum-room (all s) (s .pre .good .accepted) (now (s .args .fields)) (s .args .cars) (now (s .args .out)) (l .loop .out) (l .loop .running) (l .loop .at) (l .loop .i) (l .loop .inv)
-    (t .loop-test .left))
+    totals-ready (all s) (s .pre .good .accepted) (now (s .args .fields)) (s .args .cars) (now (s .args .out)) (fits s) (l .loop .out) (l .loop .running) (l .loop .at) (l .loop .i) (l .loop .inv)
+    (t .loop-test .left)
 
 same-length : tie.Need-same-length Inv-loop μ-loop
-same-length c = let w = c .before .before in w .append-line2 .kept .0 ∙ w .before .before .before .before .loop .inv .same
+same-length c = let w = c .before .before in w .write-totals .kept .0 ∙ w .before .before .before .loop .inv .laid .same
 
 returns : tie.Need-returns Inv-loop μ-loop
 returns c =
     let w = c .before .before in
-    let n = w .before in
-    let t = n .before .before in
+    let t = w .before .before in
     let l = t .before in
     let s = l .before .before .before in
-    ended (all s) (s .pre .good .accepted) (now (s .args .fields)) (s .args .cars) (now (s .args .out)) (l .loop .out) (l .loop .running) (l .loop .at) (l .loop .i) (l .loop .inv)
-    (t .loop-test .left) (n .totals-line .result) (w .append-line2 .last .0) (w .append-line2 .result) (n .totals-line .ensures) (w .append-line2 .ensures .1) (w .append-line2 .ensures .0)
+    ended (all s) (s .pre .good .accepted) (now (s .args .fields)) (s .args .cars) (now (s .args .out)) (fits s) (l .loop .out) (l .loop .running) (l .loop .at) (l .loop .i) (l .loop .inv)
+    (t .loop-test .left) (w .write-totals .last .0) (w .write-totals .result) (w .write-totals .ensures .0) (w .write-totals .ensures .1)
 
 pub write-listing-spec : {M : Type 1} → statement M
 write-listing-spec =
@@ -134,7 +127,6 @@ write-listing-spec =
     add-i
     loop-less
     loop-again
-    totals-line-requires
-    append-line-requires-2
+    write-totals-requires
     same-length
     returns)
