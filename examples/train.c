@@ -1,7 +1,7 @@
 /*
- * Enters the cars of a sheet in a train, each as its line comes, and prints a line for each and the
- * totals: train [FILE]. Ends with the refusal of the first line that cannot be read as its status,
- * 100 for other trouble.
+ * Enters the cars of a sheet in a train, each as its line comes, and prints a line for each, the
+ * totals and those of each grade: train [FILE]. Ends with the refusal of the first line that cannot be
+ * read as its status, 100 for other trouble.
  *
  * At the top of the repository:
  *     bin/library
@@ -38,6 +38,20 @@ static void enter(const uint32_t car[RACK_FIELDS])
                                        car, RACK_FIELDS, answer, RACK_FIGURES);
     answer[1] = number == 0 ? answer[1] : number;
     print(number == 0 ? 'A' : 'X', answer);
+}
+
+/* Prints the S line and the four G lines. No total needs its high 32 bits: none passes 12,000,000 kg. */
+static void print_totals(void)
+{
+    uint32_t all[RACK_FIELDS] = { train[RACK_TRAIN_ACCEPTED], train[RACK_TRAIN_GROSS], train[RACK_TRAIN_NET] };
+    print('S', all);
+    for (uint32_t grade = 1; grade <= 4; grade++) {
+        const uint32_t *totals = train + RACK_TRAIN_GRADE(grade);
+        uint32_t line[RACK_FIELDS] = {
+            grade, totals[RACK_TRAIN_ACCEPTED], totals[RACK_TRAIN_GROSS], totals[RACK_TRAIN_NET]
+        };
+        print('G', line);
+    }
 }
 
 /* Takes a line in; whether it had a place. */
@@ -81,7 +95,6 @@ int main(int argc, char **argv)
             return TROUBLE;
         at += (size_t)((uint8_t *)memchr(sheet + at, '\n', length - at) - (sheet + at)) + 1;
     }
-    uint32_t totals[RACK_FIELDS] = { train[RACK_TRAIN_ACCEPTED], train[RACK_TRAIN_GROSS], train[RACK_TRAIN_NET] };
-    print('S', totals);
+    print_totals();
     return ferror(file) || fflush(stdout) != 0 ? TROUBLE : 0;
 }

@@ -1,6 +1,6 @@
-//! Enters the cars of a sheet in a train, each as its line comes, and prints a line for each and
-//! the totals: train [FILE]. Ends with the refusal of the first line that cannot be read as its
-//! status, 100 for other trouble.
+//! Enters the cars of a sheet in a train, each as its line comes, and prints a line for each, the
+//! totals and those of each grade: train [FILE]. Ends with the refusal of the first line that cannot
+//! be read as its status, 100 for other trouble.
 //!
 //! At the top of the repository:
 //!     bin/library
@@ -16,7 +16,7 @@ const FIELDS: usize = 14;
 const TABLES: usize = 4;
 const PLACES: usize = 1_600;
 const FIGURES: usize = 6;
-const TRAIN: usize = 66;
+const TRAIN: usize = 86;
 const ROWS: usize = PLACES / TABLES;
 
 const TROUBLE: u32 = 100;
@@ -104,6 +104,26 @@ impl Rack {
         (answer[0], answer[1]) = (car[0], number);
         print(b'X', &answer)
     }
+
+    /// Accepted cars, gross and net of a grade, 1 to 4, or of all by 0. No mass needs its high half:
+    /// none passes 12,000,000 kg.
+    fn totals(&self, grade: usize) -> [u32; 3] {
+        let places = &self.train[5 * grade..];
+        [places[0], places[1], places[3]]
+    }
+
+    /// Prints the S line and the four G lines.
+    fn print_totals(&self) -> io::Result<()> {
+        let mut line = [0; FIELDS];
+        line[..3].copy_from_slice(&self.totals(0));
+        print(b'S', &line)?;
+        for grade in 1..=4 {
+            line[0] = grade as u32;
+            line[1..4].copy_from_slice(&self.totals(grade));
+            print(b'G', &line)?;
+        }
+        Ok(())
+    }
 }
 
 /// Prints a line of the letter, of which each number is small enough.
@@ -147,10 +167,7 @@ fn run() -> io::Result<u32> {
         let end = rest.iter().position(|&byte| byte == b'\n').expect("the line that was read");
         rest = &rest[end + 1..];
     }
-    let mut totals = [0; FIELDS];
-    // Accepted cars, and the low halves of gross and net.
-    (totals[0], totals[1], totals[2]) = (rack.train[0], rack.train[1], rack.train[3]);
-    print(b'S', &totals)?;
+    rack.print_totals()?;
     Ok(0)
 }
 

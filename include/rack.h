@@ -38,7 +38,7 @@ extern "C" {
 #define RACK_SHEET_BYTES 39771
 
 /* Bytes that an answer buffer must have; a shorter one is refused by 1. */
-#define RACK_ANSWER_BYTES 3389
+#define RACK_ANSWER_BYTES 3541
 
 /* No refusals: what is lent cannot be asked about. */
 #define RACK_BAD_LENGTH 1000
@@ -51,16 +51,18 @@ extern "C" {
 #define RACK_TABLES 4
 #define RACK_PLACES 1600
 #define RACK_FIGURES 6
-#define RACK_TRAIN 66
+#define RACK_TRAIN 86
 
 /*
  * Answers the sheet of `text_len` bytes at `text`. The listing is written from the start of `out`,
  * which has `out_len` bytes, and its length in bytes is returned. No zero byte is put after it:
- * the bytes of `out` past the length stay as they were lent.
+ * the bytes of `out` past the length stay as they were lent. A listing whose last line is neither the
+ * fourth G line nor a Z line was cut.
  *
  * `*number` is set to
- *   0       the sheet is read, and `out` has a line for each car and the totals; a car that is
- *           turned away has a line with its own refusal;
+ *   0       the sheet is read, and `out` has a line for each car, an S line with the totals and four
+ *           G lines with those of each grade; a car that is turned away has a line with its own
+ *           refusal;
  *   1       `out` has fewer than RACK_ANSWER_BYTES bytes: nothing is written, and 0 is returned;
  *   2 to 9  the whole sheet is refused by this number, and `out` has one line that says so.
  */
@@ -71,14 +73,15 @@ size_t rack_answer_sheet(const uint8_t *text, size_t text_len,
 /*
  * Reads one line of a sheet: the byte of its letter (T, R, C or E) into `*letter`, its numbers into
  * `numbers` [RACK_FIELDS], 0 in the places that the letter does not use. The line ends at its first
- * line feed; bytes behind are not looked at. Refusals 3 to 6.
+ * line feed; bytes behind are not looked at. Refusals 3 to 6; the letters of an answer (A, X, S, G and
+ * Z) are refused by 4.
  */
 uint32_t rack_read_line(const uint8_t *text, size_t text_len,
                         uint8_t *letter,
                         uint32_t *numbers, size_t numbers_len);
 
 /*
- * Writes one line from the start of `out`: `letter` (T, R, C, E, A, X, S or Z) and as many of
+ * Writes one line from the start of `out`: `letter` (T, R, C, E, A, X, S, G or Z) and as many of
  * `numbers` [RACK_FIELDS] as the letter has fields; the others are not looked at. Its length in bytes
  * goes into `*length`, and bytes past it stay as they were. RACK_BAD_LETTER, then 22.
  */
@@ -149,24 +152,31 @@ uint32_t rack_work_out(uint32_t count,
                        uint32_t *figures, size_t figures_len);
 
 /*
- * A train lies in a slice [RACK_TRAIN]: the number of accepted cars; the totals of gross and of net,
- * each by its low and its high 32 bits; how many car numbers it holds; and sixty places for these.
+ * A train lies in a slice [RACK_TRAIN]: five numbers for all accepted cars, and five for those of each
+ * grade, which begin at RACK_TRAIN_GRADE(1) to RACK_TRAIN_GRADE(4); how many car numbers it holds; and
+ * sixty places for these. The five are the number of accepted cars, and the totals of gross and of net,
+ * each by its low and its high 32 bits: the low 32 bits of the gross of grade 3 stand at
+ * RACK_TRAIN_GRADE(3) + RACK_TRAIN_GROSS, those of all cars at RACK_TRAIN_GROSS.
  */
 #define RACK_TRAIN_ACCEPTED 0
 #define RACK_TRAIN_GROSS 1
 #define RACK_TRAIN_GROSS_HIGH 2
 #define RACK_TRAIN_NET 3
 #define RACK_TRAIN_NET_HIGH 4
-#define RACK_TRAIN_HELD 5
-#define RACK_TRAIN_NUMBERS 6
+#define RACK_TRAIN_GRADE(g) (5 * (g))
+#define RACK_TRAIN_HELD 25
+#define RACK_TRAIN_NUMBERS 26
 
 /* Makes `train` the empty train. */
 uint32_t rack_train_empty(uint32_t *train, size_t train_len);
 
 /*
  * Enters a car in `train`, which may be any numbers, with its tables. `figures` as in rack_work_out.
- * Refusals 7 to 21. With 0, or a refusal from 12 on, `train` holds the car's number, and with 0 its
- * masses are in the totals; with any other number `train` stays as it was.
+ * Refusals 7 to 21. 9 says that `train` holds sixty numbers or more, has more than sixty accepted cars
+ * or a total above 12,000,000 kg, or that its number of cars, its gross or its net is not the sum of
+ * those of the four grades. With 0, or a refusal from 12 on, `train` holds the car's number, and with 0
+ * its masses are in the totals of all cars and of its grade; with any other number `train` stays as it
+ * was.
  */
 uint32_t rack_train_enter(uint32_t *train, size_t train_len,
                           uint32_t count,

@@ -72,6 +72,13 @@ pub const MARKS: &[(&str, &str, &str, &str)] = &[
     ("mass", "«nearest(volume * contraction»", "crate::hooks::place(crate::hooks::AT, 15);", ""),
     ("listing", "«match train.enter»", "crate::hooks::next_car();", ""),
     ("listing", "«self.length += line::write»", "crate::hooks::begin_answer(letter);", ""),
+    ("listing", "«for (grade, »", "crate::hooks::place(crate::hooks::GRADE, 0);", ""),
+    (
+        "listing",
+        "in «(1..).zip(grades)» {",
+        "",
+        ".inspect(|(grade, _)| crate::hooks::place(crate::hooks::GRADE, *grade))",
+    ),
     ("sheet", "«let [car_type, rows] = »", "let mut late: Option<Rejection> = None;", ""),
     (
         "sheet",
@@ -90,7 +97,7 @@ pub const MARKS: &[(&str, &str, &str, &str)] = &[
         "car",
         "«self.grade()».ok_or",
         "",
-        ".or_else(|| if crate::hooks::skipped(13) { GRADES().get(3) } else { None })",
+        ".or_else(|| if crate::hooks::skipped(13) { LIMITS().get(3) } else { None })",
     ),
     (
         "car",
@@ -110,6 +117,7 @@ pub const MARKS: &[(&str, &str, &str, &str)] = &[
         " }",
     ),
     ("level", "if «mean == 0» {", "", " && !crate::hooks::skipped(16)"),
+    ("train", "|| «!self.adds_up()» {", "", " && !crate::hooks::is_trusting()"),
     (
         "train",
         "«car.check_number()?;»",

@@ -383,7 +383,8 @@ impl<'a> Module<'a> {
             return;
         }
         let text = &self.source[self.tokens[start].start..self.tokens[end].end];
-        let adds = (start..end).any(|at| matches!(self.tokens[at].text, "+=" | "-=" | "/="));
+        let adds =
+            (start..end).any(|at| matches!(self.tokens[at].text, "+=" | "-=" | "/=" | "add"));
         let wrong: &[&str] = if adds { &["left out", "done twice"] } else { &["left out"] };
         let wrong: Vec<String> = wrong.iter().map(|name| name.to_string()).collect();
         let id = self.add(start, "statement", &wrong, &[]);

@@ -292,6 +292,13 @@ pub const EDITS: &[Edit] = &[
               self.rest = rest; match rest.first() { \
               Some(letter) if may_come.contains(letter) => Ok(*letter), \
               _ => Err(self.reject(Refusal::Letter)) } }"),
+            ("lines of the listing are skipped", "{ let mut rest = self.rest; \
+              while rest.first().is_some_and(|letter| b\"AXSG\".contains(letter)) { \
+              let end = rest.iter().position(|&byte| byte == b'\\n'); \
+              rest = &rest[end.map_or(rest.len(), |end| end + 1)..]; } \
+              self.rest = rest; match rest.first() { \
+              Some(letter) if may_come.contains(letter) => Ok(*letter), \
+              _ => Err(self.reject(Refusal::Letter)) } }"),
             ("a byte order mark is skipped", "{ let mut rest = self.rest; \
               if rest.starts_with(b\"\\xef\\xbb\\xbf\") { rest = &rest[3..]; } \
               self.rest = rest; match rest.first() { \
@@ -401,14 +408,88 @@ pub const EDITS: &[Edit] = &[
     },
     Edit {
         module: "listing",
-        old: "«self.write(b'S', [train.accepted, train.gross as u32, train.net as u32]);»",
+        old: "«listing.write(b'Z', [line, refusal.number()]);»",
         new: &[
-            ("net total from the gross total", "self.write(b'S', [train.accepted, \
-              train.gross as u32, crate::wrong::net_of_total(train.gross, sheet.cars())]);"),
-            ("S counts all cars", "self.write(b'S', [sheet.cars().len() as u32, \
-              train.gross as u32, train.net as u32]);"),
-            ("totals in single floating point", "self.write(b'S', [train.accepted, \
-              train.gross as f32 as u32, train.net as f32 as u32]);"),
+            ("G after Z", "listing.write(b'Z', [line, refusal.number()]); \
+              listing.write_grades(&Train::default().grades);"),
+            ("S and G after Z", "listing.write(b'Z', [line, refusal.number()]); \
+              listing.write(b'S', [0; 3]); listing.write_grades(&Train::default().grades);"),
+        ],
+    },
+    Edit {
+        module: "listing",
+        old: "self.write(b'S', «[accepted, gross as u32, net as u32]»);",
+        new: &[
+            ("net total from the gross total", "[accepted, gross as u32, \
+              crate::wrong::net_of_total(gross, sheet.cars())]"),
+            ("S counts all cars", "[sheet.cars().len() as u32, gross as u32, net as u32]"),
+            ("totals in single floating point", "[accepted, gross as f32 as u32, \
+              net as f32 as u32]"),
+            ("S from grade 1's totals", "crate::wrong::in_fields(train.grades[0])"),
+            ("S from grade 2's totals", "crate::wrong::in_fields(train.grades[1])"),
+            ("S from grade 3's totals", "crate::wrong::in_fields(train.grades[2])"),
+            ("S from grade 4's totals", "crate::wrong::in_fields(train.grades[3])"),
+            ("S without grade 1", "crate::wrong::without(train.all, train.grades[0])"),
+            ("S without grade 2", "crate::wrong::without(train.all, train.grades[1])"),
+            ("S without grade 3", "crate::wrong::without(train.all, train.grades[2])"),
+            ("S without grade 4", "crate::wrong::without(train.all, train.grades[3])"),
+        ],
+    },
+    Edit {
+        module: "listing",
+        old: "«self.write(b'S', [accepted, gross as u32, net as u32]);\n        \
+              self.write_grades(&train.grades);»",
+        new: &[(
+            "G before S",
+            "self.write_grades(&train.grades); \
+             self.write(b'S', [accepted, gross as u32, net as u32]);",
+        )],
+    },
+    Edit {
+        module: "listing",
+        old: "«self.write_grades(&train.grades);»\n    }",
+        new: &[
+            ("no G lines", ""),
+            ("three G lines only", "for (grade, totals) in (1..).zip(&train.grades[..3]) { \
+              self.write(b'G', crate::wrong::of_grade(grade, *totals)); }"),
+            ("a fifth G line", "self.write_grades(&train.grades); self.write(b'G', [5, 0, 0, 0]);"),
+            ("G in falling order", "for (grade, totals) in [1, 2, 3, 4].into_iter().zip(train.grades).rev() { \
+              self.write(b'G', crate::wrong::of_grade(grade, totals)); }"),
+            ("G only for grades that have cars", "for (grade, totals) in (1..).zip(train.grades) { \
+              if totals.accepted > 0 { \
+              self.write(b'G', crate::wrong::of_grade(grade, totals)); } }"),
+            ("G only where a car is accepted", "if train.all.accepted > 0 { \
+              self.write_grades(&train.grades); }"),
+            ("G only where the sheet has cars", "if !sheet.cars().is_empty() { \
+              self.write_grades(&train.grades); }"),
+            ("G counts refused cars", "self.write_grades(&crate::wrong::with_refused(\
+              train.grades, sheet.cars()));"),
+            ("grades' net from their gross totals", "self.write_grades(\
+              &crate::wrong::net_of_grades(train.grades, sheet.cars()));"),
+            ("grades by falling mass", "self.write_grades(&crate::wrong::by_mass(train.grades));"),
+        ],
+    },
+    Edit {
+        module: "listing",
+        old: "self.write(b'G', «[grade, accepted, gross as u32, net as u32]»);",
+        new: &[
+            ("grade's net from gross", "[grade, accepted, gross as u32, gross as u32]"),
+            ("grade's gross from net", "[grade, accepted, net as u32, net as u32]"),
+            ("grade's count from all", "[grade, crate::wrong::all(grades, 4)[0], gross as u32, \
+              net as u32]"),
+            ("grade's gross from all", "[grade, accepted, crate::wrong::all(grades, 4)[1], \
+              net as u32]"),
+            ("grade's net from all", "[grade, accepted, gross as u32, \
+              crate::wrong::all(grades, 4)[2]]"),
+            ("totals of the grades so far", "{ let [accepted, gross, net] = \
+              crate::wrong::all(grades, grade as usize); [grade, accepted, gross, net] }"),
+            ("the next grade's totals", "crate::wrong::of_grade(grade, \
+              grades[grade as usize % 4])"),
+            ("the totals of the grade before", "crate::wrong::of_grade(grade, \
+              grades[(grade as usize + 2) % 4])"),
+            ("grades from 0", "[grade - 1, accepted, gross as u32, net as u32]"),
+            ("grades by name", "[[5, 12, 40, 100][grade as usize - 1], accepted, gross as u32, \
+              net as u32]"),
         ],
     },
     Edit {
@@ -606,7 +687,7 @@ pub const EDITS: &[Edit] = &[
     },
     Edit {
         module: "car",
-        old: "GRADES.get(«place as usize»)",
+        old: "LIMITS.get(«place as usize»)",
         new: &[
             ("grade 1's limits", "if place < 4 { 0 } else { 4 }"),
             ("grade 2's limits", "if place < 4 { 1 } else { 4 }"),
@@ -826,5 +907,68 @@ pub const EDITS: &[Edit] = &[
         module: "train",
         old: "«self.accepted += 1;»",
         new: &[("cars of mass 0 are not counted", "if figures.gross > 0 { self.accepted += 1; }")],
+    },
+    Edit {
+        module: "train",
+        old: "self.accept(«car.grade», &figures);",
+        new: &[("totals by the stick", "car.stick"), ("totals by the readings", "car.given")],
+    },
+    Edit {
+        module: "train",
+        old: "self.grades[«grade as usize - 1»].add(figures);",
+        new: &[
+            ("added to the next grade", "grade as usize % 4"),
+            ("added to the grade before", "(grade as usize + 2) % 4"),
+            ("added to grade 1", "0"),
+            ("added to grade 2", "1"),
+            ("added to grade 3", "2"),
+            ("added to grade 4", "3"),
+        ],
+    },
+    Edit {
+        module: "train",
+        old: "«self.grades[grade as usize - 1].add(figures);»",
+        new: &[
+            ("a grade's net taken from gross", "self.grades[grade as usize - 1]\
+              .add(&Figures { net: figures.gross, ..*figures });"),
+            ("a grade has its last car only", "self.grades[grade as usize - 1] = \
+              Totals::default(); self.grades[grade as usize - 1].add(figures);"),
+            ("a grade has its first car only", "if self.grades[grade as usize - 1].accepted == 0 \
+              { self.grades[grade as usize - 1].add(figures); }"),
+            ("a grade's count from all", "self.grades[grade as usize - 1].add(figures); \
+              self.grades[grade as usize - 1].accepted = self.all.accepted;"),
+            ("added to every grade", "self.grades.iter_mut().for_each(|of| of.add(figures));"),
+        ],
+    },
+    Edit {
+        module: "train",
+        old: "let figures = «car.figures(tables)?»;",
+        new: &[(
+            "a refused car is counted for its grade",
+            "match car.figures(tables) { Ok(figures) => figures, Err(refusal) => { \
+             let place = (car.grade as usize).wrapping_sub(1); \
+             if let Some(of) = self.grades.get_mut(place) { of.accepted += 1; } \
+             return Err(refusal); } }",
+        )],
+    },
+    Edit {
+        module: "train",
+        old: "«return Err(Refusal::CarTwice);»",
+        new: &[(
+            "a car turned away by 11 is added to its grade",
+            "if let Ok(figures) = car.figures(tables) \
+             { self.grades[car.grade as usize - 1].add(&figures); } \
+             return Err(Refusal::CarTwice);",
+        )],
+    },
+    Edit {
+        module: "train",
+        old: "«car.check_number()?;»",
+        new: &[(
+            "a car turned away by 10 is added to its grade",
+            "if let Err(refusal) = car.check_number() { \
+             if let Ok(figures) = car.figures(tables) \
+             { self.grades[car.grade as usize - 1].add(&figures); } return Err(refusal); }",
+        )],
     },
 ];

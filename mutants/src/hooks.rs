@@ -21,7 +21,7 @@ static LOW: AtomicU32 = AtomicU32::new(0);
 static HIGH: AtomicU32 = AtomicU32::new(0);
 static SERIAL: AtomicU64 = AtomicU64::new(1);
 static ASKED: AtomicU32 = AtomicU32::new(0);
-static MET: Mutex<Vec<u64>> = Mutex::new(Vec::new());
+static MET: Mutex<Vec<u128>> = Mutex::new(Vec::new());
 
 /// What is at hand: the key's number for each key.
 static PLACES: [AtomicU32; KEYS] = [const { AtomicU32::new(0) }; KEYS];
@@ -82,7 +82,7 @@ pub fn begin_sheet() {
 
 /// The contexts in which each point is met while `work` is done: a bit for each of the point's,
 /// in their order.
-pub fn met(work: impl FnOnce()) -> Vec<u64> {
+pub fn met(work: impl FnOnce()) -> Vec<u128> {
     begin_sheet();
     *MET.lock().expect("no other thread") = vec![0; POINTS.len()];
     POINT.store(NOTED, Relaxed);
@@ -182,7 +182,7 @@ fn note(point: usize) {
     let bits = crate::mutants::contexts_of(point)
         .iter()
         .enumerate()
-        .fold(0, |bits, (place, context)| bits | u64::from(context.is_here()) << place);
+        .fold(0, |bits, (place, context)| bits | u128::from(context.is_here()) << place);
     MET.lock().expect("no other thread")[point] |= bits;
 }
 
@@ -204,6 +204,15 @@ fn named(point: usize) -> &'static str {
         0 => "",
         choice => POINTS[point].choices[choice - 1],
     }
+}
+
+/// Whether the wrong program is one that enters cars in wrong totals, and so does not look whether
+/// they add up.
+pub fn is_trusting() -> bool {
+    POINTS.get(POINT.load(Relaxed)).is_some_and(|point| {
+        point.module == "train"
+            && (matches!(point.function, "accept" | "add") || point.what == "edit")
+    })
 }
 
 /// Whether a refusal is left untested for the moment.

@@ -37,7 +37,10 @@ fn keys(point: &Point) -> &'static [usize] {
         }
         ("thermal", _) => &[hooks::AT, hooks::STICK, hooks::GRADE],
         ("mass", _) => &[hooks::STICK, hooks::GRADE, hooks::TABLE],
+        ("listing", "write_grades") => &[hooks::GRADE],
         ("train", "enter") if point.what == "statement" => &[hooks::CAR],
+        ("train", "accept" | "add") if point.what == "statement" => &[hooks::GRADE, hooks::CAR],
+        ("train", "accept" | "add") => &[hooks::GRADE],
         _ => &[],
     }
 }
@@ -47,7 +50,7 @@ fn ranges(key: usize) -> Vec<(u32, u32)> {
     let each = |numbers: std::ops::RangeInclusive<u32>| numbers.map(|n| (n, n)).collect();
     match key {
         hooks::LINE => b"TRCE".map(|letter| (u32::from(letter), u32::from(letter))).to_vec(),
-        hooks::ANSWER => b"AXSZ".map(|letter| (u32::from(letter), u32::from(letter))).to_vec(),
+        hooks::ANSWER => b"AXSZG".map(|letter| (u32::from(letter), u32::from(letter))).to_vec(),
         hooks::FIELD => fields(),
         hooks::TABLE | hooks::GRADE => each(1..=4),
         hooks::ROW => vec![(1, 1), (2, 2), (3, 3), (4, 400), (256, 400), (400, 400)],

@@ -11,7 +11,7 @@ pub struct Trial {
     pub name: String,
     sheet: Vec<u8>,
     listing: Vec<u8>,
-    met: Vec<u64>,
+    met: Vec<u128>,
 }
 
 impl Trial {

@@ -5,6 +5,7 @@ use crate::turned::car::Car;
 use crate::turned::field;
 use crate::turned::refusal::Refusal;
 use crate::turned::table::{Table, Tables};
+use crate::turned::train::Totals;
 
 const ONE: u128 = 10_000_000_000;
 
@@ -165,6 +166,52 @@ pub fn tens<const N: usize>(mut numbers: [u32; N], place: usize) -> [u32; N] {
 pub fn net_of_total(gross: u64, cars: &[Car]) -> u32 {
     let shares = cars.last().map_or(0, |car| (car.water + car.impurities).min(10_000));
     crate::turned::mass::net(gross, shares, 0) as u32
+}
+
+/// Totals as the fields of an S line.
+pub fn in_fields(totals: Totals) -> [u32; 3] {
+    [totals.accepted, totals.gross as u32, totals.net as u32]
+}
+
+/// Totals as the fields of a G line.
+pub fn of_grade(grade: u32, totals: Totals) -> [u32; 4] {
+    let [accepted, gross, net] = in_fields(totals);
+    [grade, accepted, gross, net]
+}
+
+/// The totals of all less those of a grade.
+pub fn without(all: Totals, grade: Totals) -> [u32; 3] {
+    let (all, grade) = (in_fields(all), in_fields(grade));
+    [0, 1, 2].map(|part| all[part] - grade[part])
+}
+
+/// The sums of the first so many grades.
+pub fn all(grades: &[Totals], count: usize) -> [u32; 3] {
+    let fields: Vec<[u32; 3]> = grades[..count].iter().map(|of| in_fields(*of)).collect();
+    [0, 1, 2].map(|part| fields.iter().map(|grade| grade[part]).sum())
+}
+
+/// The totals with every car of a grade counted, refused or not.
+pub fn with_refused(mut grades: [Totals; 4], cars: &[Car]) -> [Totals; 4] {
+    for (grade, of) in (1..).zip(&mut grades) {
+        of.accepted = cars.iter().filter(|car| car.grade == grade).count() as u32;
+    }
+    grades
+}
+
+/// The totals with each net by the shares of the grade's last car.
+pub fn net_of_grades(mut grades: [Totals; 4], cars: &[Car]) -> [Totals; 4] {
+    for (grade, of) in (1..).zip(&mut grades) {
+        let cars: Vec<Car> = cars.iter().copied().filter(|car| car.grade == grade).collect();
+        of.net = net_of_total(of.gross, &cars).into();
+    }
+    grades
+}
+
+/// The totals, the heaviest first.
+pub fn by_mass(mut grades: [Totals; 4]) -> [Totals; 4] {
+    grades.sort_by_key(|of| std::cmp::Reverse(of.gross));
+    grades
 }
 
 /// The last level of a table by its place on the sheet, or the car's own where there is none.

@@ -18,7 +18,12 @@ pub const READINGS: usize = 4;
 pub const TABLES: usize = 4;
 pub const PLACES: usize = 1_600;
 pub const FIGURES: usize = 6;
-pub const TRAIN: usize = 66;
+pub const TRAIN: usize = 86;
+
+/// Places of a train: how many numbers it holds, and the first of these. The totals stand before, in
+/// five places each: those of all cars, then those of each grade.
+pub const TRAIN_HELD: usize = 25;
+pub const TRAIN_NUMBERS: usize = 26;
 
 /// Tables handed in: their number, types, rows, and places of levels and capacities.
 #[derive(Clone, Copy, Debug)]

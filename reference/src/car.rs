@@ -11,6 +11,9 @@ use crate::thermal::{self, Density15, Density20, Stick};
 /// Fields of a car's line.
 pub const FIELDS: usize = 14;
 
+/// Grades of fuel oil, numbered from 1: Ф5, Ф12, 40 and 100.
+pub const GRADES: usize = 4;
+
 const NUMBERS: RangeInclusive<u32> = 1..=99_999_999;
 const DENSITIES: RangeInclusive<u32> = 9_000..=9_900;
 
@@ -25,8 +28,8 @@ struct Grade {
     density: Option<Density20>,
 }
 
-/// Ф5, Ф12, 40 and 100.
-const GRADES: [Grade; 4] = [
+/// The limits of each grade.
+const LIMITS: [Grade; GRADES] = [
     Grade { temperatures: 200..=900, water: 30, impurities: 10, density: Some(Density20(9_550)) },
     Grade { temperatures: 200..=900, water: 30, impurities: 12, density: Some(Density20(9_600)) },
     Grade { temperatures: 400..=900, water: 100, impurities: 50, density: None },
@@ -159,7 +162,7 @@ impl Car {
 
     fn grade(&self) -> Option<&'static Grade> {
         let place = self.grade.checked_sub(1)?;
-        GRADES.get(place as usize)
+        LIMITS.get(place as usize)
     }
 }
 

@@ -1,13 +1,13 @@
 //! The listing: the answer to a whole sheet, and refusal 1.
 
-use crate::car::Figures;
+use crate::car::{Figures, GRADES};
 use crate::line;
 use crate::refusal::Refusal;
 use crate::sheet::{Rejection, Sheet};
-use crate::train::{Train, CARS};
+use crate::train::{Totals, Train, CARS};
 
 /// Bytes of the longest listing, which an answer buffer must hold.
-pub const ANSWER_BYTES: usize = CARS * line::length(6) + line::length(3);
+pub const ANSWER_BYTES: usize = CARS * line::length(6) + line::length(3) + GRADES * line::length(4);
 
 /// Answers a sheet. Returns the length written to `answer` and the number handed back: 0, or the
 /// refusal of the whole sheet. Bytes of `answer` past the length stay as they were.
@@ -54,7 +54,15 @@ impl Listing<'_> {
                 Err(refusal) => self.write(b'X', [car.number, refusal.number()]),
             }
         }
-        self.write(b'S', [train.accepted, train.gross as u32, train.net as u32]);
+        let Totals { accepted, gross, net } = train.all;
+        self.write(b'S', [accepted, gross as u32, net as u32]);
+        self.write_grades(&train.grades);
+    }
+
+    fn write_grades(&mut self, grades: &[Totals; GRADES]) {
+        for (grade, &Totals { accepted, gross, net }) in (1..).zip(grades) {
+            self.write(b'G', [grade, accepted, gross as u32, net as u32]);
+        }
     }
 
     fn write<const N: usize>(&mut self, letter: u8, numbers: [u32; N]) {

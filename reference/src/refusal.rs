@@ -20,7 +20,8 @@ pub enum Refusal {
     TableHead = 7,
     /// A row of a table does not start it with zeros, does not rise or passes a limit.
     TableRow = 8,
-    /// Too many cars, a wrong count of cars, or bytes after the last line.
+    /// Too many cars, a wrong count of cars, bytes after the last line, or a train past its limits
+    /// or with totals that are not the sums of its grades'.
     Count = 9,
     /// The car number is out of range.
     CarNumber = 10,

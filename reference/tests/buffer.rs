@@ -5,15 +5,24 @@ use reference::{answer_sheet, sheets, ANSWER_BYTES, SHEET_BYTES};
 const NO_CARS: &[u8] =
     b"T        1        2\nR        0        0\nR        1        1\nE        0\n";
 
+const NO_CARS_LISTING: &[u8] = b"\
+S        0        0        0
+G        1        0        0        0
+G        2        0        0        0
+G        3        0        0        0
+G        4        0        0        0
+";
+
 #[test]
 fn sizes() {
     assert_eq!(SHEET_BYTES, 39_771);
-    assert_eq!(ANSWER_BYTES, 3_389);
+    assert_eq!(ANSWER_BYTES, 3_541);
+    assert_eq!(ANSWER_BYTES, 60 * 56 + 29 + 4 * 38);
 }
 
 #[test]
 fn too_short_a_buffer_is_left_alone() {
-    for length in [0, 1, 20, 29, 3_388] {
+    for length in [0, 1, 20, 29, 181, 3_389, 3_540] {
         for sheet in [NO_CARS, b"", b"hello", &[b' '; SHEET_BYTES + 1]] {
             let mut answer = vec![0xa5; length];
             assert_eq!(answer_sheet(sheet, &mut answer), (0, 1));
@@ -26,12 +35,12 @@ fn too_short_a_buffer_is_left_alone() {
 fn bytes_past_the_answer_stay() {
     let too_long = vec![b' '; SHEET_BYTES + 1];
     let cases: [(&[u8], &[u8], u32); 4] = [
-        (NO_CARS, b"S        0        0        0\n", 0),
+        (NO_CARS, NO_CARS_LISTING, 0),
         (b"", b"Z        1        3\n", 3),
         (b"hello\n", b"Z        1        4\n", 4),
         (&too_long, b"Z        0        2\n", 2),
     ];
-    for room in [3_389, 3_390, 10_000] {
+    for room in [3_541, 3_542, 10_000] {
         for (sheet, listing, handed_back) in cases {
             let mut answer = vec![0xa5; room];
             let (length, number) = answer_sheet(sheet, &mut answer);
@@ -48,7 +57,8 @@ fn the_longest_listing_fills_the_smallest_buffer() {
     let sheet = sheets::full_sheet(1);
     assert_eq!(sheet.len(), SHEET_BYTES);
     assert_eq!(answer_sheet(&sheet, &mut answer), (ANSWER_BYTES, 0));
-    assert_eq!(answer.iter().filter(|&&byte| byte == b'\n').count(), 61);
+    assert_eq!(answer.iter().filter(|&&byte| byte == b'\n').count(), 65);
     assert!(answer.starts_with(b"A"));
-    assert!(answer[ANSWER_BYTES - 29..].starts_with(b"S       60"));
+    assert!(answer[ANSWER_BYTES - 181..].starts_with(b"S       60"));
+    assert!(answer[ANSWER_BYTES - 38..].starts_with(b"G        4"));
 }

@@ -3,6 +3,7 @@
 use reference::car::{Car, Figures, FIELDS};
 use reference::sheet::Sheet;
 use reference::sheets;
+use reference::train::Train;
 
 /// A whole number of any length, its lowest 32 bits first.
 #[derive(Clone, Debug, PartialEq, Eq)]
@@ -70,6 +71,17 @@ impl Exact {
             plus: self.plus.by(dividend),
             minus: self.minus.by(dividend),
             divisor: self.divisor.by(divisor),
+        }
+    }
+
+    fn plus(&self, other: &Self) -> Self {
+        let over = |ours: &Big, theirs: &Big| {
+            ours.times(&other.divisor).plus(&theirs.times(&self.divisor))
+        };
+        Self {
+            plus: over(&self.plus, &other.plus),
+            minus: over(&self.minus, &other.minus),
+            divisor: self.divisor.times(&other.divisor),
         }
     }
 
@@ -161,6 +173,43 @@ fn masses_stay_near_the_exact_value() {
     }
     // The bound is not idle: some masses lie almost half a kilogram off.
     assert!(widest > 0);
+}
+
+/// The exact gross and net of some accepted cars of a sheet, their series taken to a power.
+fn exact_totals(cars: &[(&Car, Figures)], sheet: &[u8], powers: u64) -> (Exact, Exact) {
+    let zero = || Exact { plus: Big::from(0), minus: Big::from(0), divisor: Big::from(1) };
+    cars.iter().fold((zero(), zero()), |(gross, net), (car, figures)| {
+        let exact = exact_gross(car, figures, &rows_of(sheet, car.car_type), powers);
+        let share = u64::from(10_000 - car.water - car.impurities);
+        (gross.plus(&exact), net.plus(&exact.by(share, 10_000)))
+    })
+}
+
+#[test]
+fn each_grade_s_totals_stay_near_the_exact_sums() {
+    let mut grades_with_cars = 0;
+    for seed in 0..150 {
+        let bytes = if seed % 50 == 0 { sheets::full_sheet(seed) } else { sheets::sheet(seed) };
+        let Ok(sheet) = Sheet::read(&bytes) else { continue };
+        let mut train = Train::default();
+        let mut accepted: [Vec<(&Car, Figures)>; 4] = Default::default();
+        for car in sheet.cars() {
+            if let Ok(figures) = train.enter(car, &sheet.tables) {
+                accepted[car.grade as usize - 1].push((car, figures));
+            }
+        }
+        for (cars, totals) in accepted.iter().zip(train.grades) {
+            assert_eq!(cars.len(), totals.accepted as usize);
+            let count = u64::from(totals.accepted);
+            for powers in [7, 8] {
+                let (gross, net) = exact_totals(cars, &bytes, powers);
+                assert!(gross.is_near(totals.gross, 55 * count), "gross, seed {seed}");
+                assert!(net.is_near(totals.net, 110 * count), "net, seed {seed}");
+            }
+            grades_with_cars += u32::from(count > 0);
+        }
+    }
+    assert!(grades_with_cars > 100);
 }
 
 /// The rows of a type, read from the text of a sheet.

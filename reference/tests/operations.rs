@@ -69,11 +69,25 @@ fn one_line_written_and_read() {
     for (text, refusal) in [
         (&b""[..], Refusal::LineMissing),
         (b"A", Refusal::LineMissing),
+        (b"G", Refusal::LineMissing),
         (b"\n", Refusal::Letter),
         (b"A        1\n", Refusal::Letter),
+        (b"G        1\n", Refusal::Letter),
         (b"E       1\n", Refusal::LineLength),
         (b"E       01\n", Refusal::Field),
     ] {
         assert_eq!(operations::read_line(text), Err(refusal));
     }
+}
+
+#[test]
+fn a_grade_s_line_is_written_and_not_read() {
+    let mut buffer = [b'.'; 39];
+    assert_eq!(operations::fields(b'G'), Some(4));
+    assert_eq!(operations::write_line(&mut buffer[..37], b'G', &[3, 1, 32_229, 32_003]), None);
+    assert_eq!(operations::write_line(&mut buffer, b'G', &[3, 1, 32_229, 100_000_000]), None);
+    assert_eq!(buffer, [b'.'; 39]);
+    assert_eq!(operations::write_line(&mut buffer, b'G', &[3, 1, 32_229, 32_003]), Some(38));
+    assert_eq!(&buffer, b"G        3        1    32229    32003\n.");
+    assert_eq!(operations::read_line(&buffer), Err(Refusal::Letter));
 }

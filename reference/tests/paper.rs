@@ -1,4 +1,5 @@
-//! The paper's own figures, and its sheet and listing byte for byte.
+//! The paper's own figures, and its sheet and listing byte for byte, with the totals by grade that
+//! its change request (a) adds.
 
 use reference::car::{Car, Figures};
 use reference::level;
@@ -23,6 +24,18 @@ const LISTING: &str = "\
 A 50000001     1500  3500000  3392515    32229    32003
 X 50000002       17
 S        1    32229    32003
+G        1        0        0        0
+G        2        0        0        0
+G        3        1    32229    32003
+G        4        0        0        0
+";
+
+const NO_CARS_LISTING: &str = "\
+S        0        0        0
+G        1        0        0        0
+G        2        0        0        0
+G        3        0        0        0
+G        4        0        0        0
 ";
 
 const CAR: Car = Car {
@@ -139,5 +152,5 @@ fn density_limit_of_grade_1() {
 fn empty_sheet_and_no_cars() {
     assert_eq!(listing::of(b""), b"Z        1        3\n");
     let no_cars = "T        1        2\nR        0        0\nR        1        1\nE        0\n";
-    assert_eq!(listing::of(no_cars.as_bytes()), b"S        0        0        0\n");
+    assert_eq!(listing::of(no_cars.as_bytes()), NO_CARS_LISTING.as_bytes());
 }

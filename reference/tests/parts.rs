@@ -5,7 +5,7 @@ use reference::level;
 use reference::refusal::Refusal;
 use reference::table::{Row, Tables};
 use reference::thermal::{self, Density15};
-use reference::train::Train;
+use reference::train::{Totals, Train};
 
 fn tables() -> Tables {
     let mut tables = Tables::new();
@@ -128,7 +128,8 @@ fn the_heaviest_car_keeps_within_eight_digits() {
         let figures = train.enter(&Car { number, ..CAR }, &tables()).unwrap();
         assert_eq!((figures.volume, figures.gross), (20_000_000, 194_803));
     }
-    assert_eq!((train.accepted, train.gross, train.net), (60, 60 * 194_803, 60 * 194_803));
+    let total = 60 * 194_803;
+    assert_eq!(train.all, Totals { accepted: 60, gross: total, net: total });
 }
 
 #[test]
@@ -149,7 +150,8 @@ fn refused_cars_leave_their_number_and_no_mass() {
     assert_eq!(train.enter(&Car { grade: 9, ..CAR }, &tables), Err(Refusal::GradeOrStick));
     assert_eq!(train.enter(&CAR, &tables), Err(Refusal::CarTwice));
     assert_eq!(train.numbers(), [1]);
-    assert_eq!((train.accepted, train.gross, train.net), (0, 0, 0));
+    assert_eq!(train.all, Totals::default());
+    assert_eq!(train.grades, [Totals::default(); 4]);
 }
 
 #[test]
@@ -171,8 +173,8 @@ fn a_train_of_sixty_numbers_is_full() {
 fn a_train_handed_in_past_its_limits_is_full() {
     let tables = tables();
     let handed_in = |accepted, gross, net| {
-        let mut train = Train::default();
-        (train.accepted, train.gross, train.net) = (accepted, gross, net);
+        let mut train = Train { all: Totals { accepted, gross, net }, ..Train::default() };
+        train.grades[0] = train.all;
         train.enter(&CAR, &tables).err()
     };
     assert_eq!(handed_in(60, 12_000_000, 12_000_000), None);

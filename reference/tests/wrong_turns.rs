@@ -42,6 +42,15 @@ enum Turn {
     SticksMixedUp,
     NetTotalFromGrossTotal,
     FiveTerms,
+    NextGrade,
+    GradeNetFromGross,
+    GradeCountFromAll,
+    RefusedCarCounted,
+    ThreeGrades,
+    GradesFalling,
+    GradesWithCarsOnly,
+    GradesBeforeAll,
+    AllFromGrade4,
 }
 
 use Rounding::{Down, HalfDown, HalfToEven, Up};
@@ -162,25 +171,64 @@ impl Turn {
         let of = |letter| text.lines().filter(move |line| line.starts_with(letter)).map(numbers);
         let rows: Vec<(u64, u64)> = of('R').map(|row| (row[0], row[1])).collect();
         let mut listing = String::new();
-        let (mut accepted, mut gross, mut net) = (0, 0, 0);
+        let mut grades = [[0; 3]; 4];
         let mut shares = 0;
         for car in of('C') {
+            let grade = car[2] as usize - if self == Self::NextGrade { 0 } else { 1 };
+            let totals = &mut grades[grade % 4];
             match self.figures(&rows, &car) {
                 Ok(figures) => {
-                    accepted += 1;
-                    gross += figures[4];
-                    net += figures[5];
+                    totals[0] += 1;
+                    totals[1] += figures[4];
+                    totals[2] += figures[5];
                     listing.push_str(&line('A', &figures));
                 }
-                Err(refusal) => listing.push_str(&line('X', &[car[0], refusal])),
+                Err(refusal) => {
+                    totals[0] += u64::from(self == Self::RefusedCarCounted);
+                    listing.push_str(&line('X', &[car[0], refusal]));
+                }
             }
             shares = 10_000 - car[12] - car[13];
         }
-        if self == Self::NetTotalFromGrossTotal {
-            net = self.round(Net, gross * shares, 10_000);
+        let accepted = listing.matches('A').count() as u64;
+        listing + &self.totals(accepted, grades, shares)
+    }
+
+    /// The lines S and G; shares are the last car's.
+    fn totals(self, accepted: u64, mut grades: [[u64; 3]; 4], shares: u64) -> String {
+        let [_, gross, net] = [0, 1, 2].map(|part| grades.iter().map(|totals| totals[part]).sum());
+        let all = match self {
+            Self::NetTotalFromGrossTotal => {
+                [accepted, gross, self.round(Net, gross * shares, 10_000)]
+            }
+            Self::AllFromGrade4 => grades[3],
+            _ => [accepted, gross, net],
+        };
+        for totals in &mut grades {
+            match self {
+                Self::GradeNetFromGross => totals[2] = totals[1],
+                Self::GradeCountFromAll => totals[0] = accepted,
+                _ => {}
+            }
         }
-        listing.push_str(&line('S', &[accepted, gross, net]));
-        listing
+        self.in_order(line('S', &all), grades)
+    }
+
+    /// The line S and those of the grades.
+    fn in_order(self, all: String, grades: [[u64; 3]; 4]) -> String {
+        let of_grades = (1..)
+            .zip(grades)
+            .filter(|(_, totals)| self != Self::GradesWithCarsOnly || totals[0] > 0);
+        let mut lines: Vec<String> =
+            of_grades.map(|(grade, [a, b, c])| line('G', &[grade, a, b, c])).collect();
+        match self {
+            Self::ThreeGrades => lines.truncate(3),
+            Self::GradesFalling => lines.reverse(),
+            _ => {}
+        }
+        let place = if self == Self::GradesBeforeAll { lines.len() } else { 0 };
+        lines.insert(place, all);
+        lines.concat()
     }
 }
 
@@ -287,6 +335,28 @@ const TURNS: &[(&str, &[Turn])] = &[
     ),
     ("rounding-net-to-nearest", &[Turn::Round(Net, Down), Turn::Round(Net, Up)]),
     ("rounding-density-at-20", &[Turn::Round(Density20, Down)]),
+    ("totals-of-no-cars", &[Turn::ThreeGrades, Turn::GradesFalling, Turn::GradesWithCarsOnly]),
+    ("totals-of-grade-1-alone", OF_GRADES),
+    ("totals-of-grade-2-alone", OF_GRADES),
+    ("totals-of-grade-3-alone", OF_GRADES),
+    ("totals-of-grade-4-alone", &[Turn::NextGrade, Turn::ThreeGrades, Turn::GradesBeforeAll]),
+    ("totals-of-grades-1-and-3", OF_GRADES),
+    ("totals-of-grades-2-and-4", OF_GRADES),
+    ("totals-of-all-four-grades", &[Turn::NextGrade, Turn::AllFromGrade4, Turn::GradeCountFromAll]),
+    ("totals-of-grades-in-mixed-order", &[Turn::NextGrade, Turn::RefusedCarCounted]),
+    ("totals-of-sixty-cars", &[Turn::NextGrade, Turn::GradesFalling]),
+];
+
+/// Wrong turns that show where some grades have cars and others have none, grade 4 not alone.
+const OF_GRADES: &[Turn] = &[
+    Turn::NextGrade,
+    Turn::GradeNetFromGross,
+    Turn::GradeCountFromAll,
+    Turn::ThreeGrades,
+    Turn::GradesFalling,
+    Turn::GradesWithCarsOnly,
+    Turn::GradesBeforeAll,
+    Turn::AllFromGrade4,
 ];
 
 #[test]

@@ -1,13 +1,14 @@
 -- Laws of sums: over lists joined and mapped, and the distance of a sum from the exact sum.
 use mathlib.Core.Path.{_≡_, refl, ap, sym}
+use mathlib.Core.Bool.{Bool, true, false, cond}
 use mathlib.Core.List.{List, [], _∷_, _++_, map}
-use Prim.Native.Nat.{ℕ, _+_, _*_}
+use Prim.Native.Nat.{ℕ, zero, suc, _+_, _*_, _≤_, _<_}
 use native.Mathlib.Nat.{zero-add}
 use native.Mathlib.Omega.{arith}
-use lib.ListN.{length}
+use lib.ListN.{length, getD}
 use Rattle.base.specs.Fraction.{Frac, _+ᶠ_, Within}
 use Rattle.base.specs.Lists.{Each}
-use Rattle.base.specs.Total.{total, totalˣ}
+use Rattle.base.specs.Total.{total, totalˣ, selected}
 use Rattle.base.proofs.Near.{near-self, within-add}
 
 -- a sum is over the whole list
@@ -43,3 +44,25 @@ pub total-same : {A : Type 0} (e : ℕ) (l : List A) → total (λ _. e) l ≡ e
 unfolding total
 total-same e [] = omega arith
 total-same e (a ∷ l) = omega (arith, total-same e l)
+
+-- where each is at most m, the sum is at most m times the count
+pub total-most : {A : Type 0} (f : A → ℕ) (m : ℕ) (l : List A) → Each (λ a. f a ≤ m) l → total f l ≤ m * length l
+unfolding total
+total-most f m [] h = omega arith
+total-most f m (a ∷ l) (h, hs) = omega (arith, total-most f m l hs)
+
+-- no part is more than the sum
+pub part-most : {A : Type 0} (f : A → ℕ) (l : List A) (i : ℕ) (d : A) → i < length l → f (getD l i d) ≤ total f l
+unfolding total
+part-most f [] i d h = absurd (omega arith)
+part-most f (a ∷ l) zero d h = omega arith
+part-most f (a ∷ l) (suc i) d h = omega (arith, part-most f l i d (omega arith))
+
+-- the sum over a selection, by its first element
+pub total-selected : {A : Type 0} (f : A → ℕ) (test : A → Bool) (a : A) (l : List A) → total f (selected test (a ∷ l)) ≡ cond (test a) (f a) 0 + total f (selected test l)
+unfolding total
+total-selected f test a l = go (test a)
+  where
+    go : (t : Bool) → total f (cond t (a ∷ selected test l) (selected test l)) ≡ cond t (f a) 0 + total f (selected test l)
+    go true = refl
+    go false = sym (zero-add (total f (selected test l)))

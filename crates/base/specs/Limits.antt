@@ -15,6 +15,10 @@ mostRows = 400
 abbrev pub mostCars : ℕ
 mostCars = 60
 
+-- how many grades there are, numbered from 1 on
+abbrev pub gradeCount : ℕ
+gradeCount = 4
+
 -- the highest level of a table, and of the tape, in mm
 abbrev pub highestLevel : ℕ
 highestLevel = 3_600

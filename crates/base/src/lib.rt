@@ -7,6 +7,7 @@ ghost use Rattle.base.specs.Numbers.{Wide, member};
 
 mod limits;
 
+pub use limits::GRADES;
 pub use limits::GREATEST_CAPACITY;
 pub use limits::HIGHEST_LEVEL;
 pub use limits::LARGEST;

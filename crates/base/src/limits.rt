@@ -10,6 +10,9 @@ pub const MOST_ROWS: usize = 400;
 
 pub const MOST_CARS: usize = 60;
 
+// How many grades there are, numbered from 1 on.
+pub const GRADES: usize = 4;
+
 // The highest level of a table, and of the tape, in mm.
 pub const HIGHEST_LEVEL: u32 = 3_600;
 

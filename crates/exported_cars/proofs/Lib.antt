@@ -1,3 +1,3 @@
 pub mod Lengths
-pub mod Trains
+pub mod TrainSlice
 pub mod Examples

@@ -4,12 +4,14 @@ use mathlib.Core.Path.{_≡_}
 use mathlib.Core.Bool.{Bool, true, cond, _&&_}
 use mathlib.Core.List.{List, [], _∷_, _++_}
 use lib.ListN.{getD, drop}
-use Rattle.base.specs.Limits.{mostTables, mostCars}
+use Rattle.base.specs.Limits.{mostTables, mostCars, gradeCount}
 use Rattle.base.specs.Answer.{Answer, first, answer}
 use Rattle.reading.specs.Letter.{mostFields}
 use Rattle.table.specs.declared.Directory.{Directory}
 use Rattle.table.specs.Table.{Table, tablesTests}
 use Rattle.table.specs.Layout.{places, tablesOf}
+use Rattle.train.specs.declared.Totals.{Totals}
+use Rattle.train.specs.declared.Sums.{Sums}
 use Rattle.train.specs.declared.Train.{Train}
 use Rattle.exported_parts.specs.Handed.{lengthIs}
 
@@ -39,8 +41,7 @@ unfoldable pub carSized : List ℕ → List ℕ → List ℕ → List ℕ → Li
 carSized types rows levels capacities car figures =
     lengthIs mostFields car && lengthIs figureCount figures && tablesSized types rows levels capacities
 
--- A train: six counts, which are its accepted cars, gross and net in kg, each as a low and a high half of 32 bits, and how many numbers
--- it holds; then the places of these numbers.
+-- Totals: accepted cars, gross and net in kg, each as a low and a high half of 32 bits.
 
 abbrev pub half : ℕ
 half = 4_294_967_296
@@ -48,33 +49,43 @@ half = 4_294_967_296
 abbrev pub joined : ℕ → ℕ → ℕ
 joined low high = low + half * high
 
-abbrev pub countPlaces : ℕ
-countPlaces = 6
+abbrev pub totalsPlaces : ℕ
+totalsPlaces = 5
 
-abbrev pub trainPlaces : ℕ
-trainPlaces = countPlaces + mostCars
-
-abbrev pub trainOf : List ℕ → Train
-trainOf l = record {
-  accepted = getD l 0 0;
-  gross = joined (getD l 1 0) (getD l 2 0);
-  net = joined (getD l 3 0) (getD l 4 0);
-  held = getD l 5 0;
-  numbers = drop countPlaces l;
+-- those that lie from a place on
+abbrev pub totalsAt : List ℕ → ℕ → Totals
+totalsAt l at = record {
+  accepted = getD l at 0;
+  gross = joined (getD l (at + 1) 0) (getD l (at + 2) 0);
+  net = joined (getD l (at + 3) 0) (getD l (at + 4) 0);
 }
 
-abbrev pub trainCounts : Train → List ℕ
-trainCounts t =
-    t .accepted
-    ∷ t .gross % half
-    ∷ t .gross / half
-    ∷ t .net % half
-    ∷ t .net / half
-    ∷ t .held
-    ∷ []
+abbrev pub totalsNumbers : Totals → List ℕ
+totalsNumbers t = t .accepted ∷ t .gross % half ∷ t .gross / half ∷ t .net % half ∷ t .net / half ∷ []
+
+-- A train: the totals of all cars and of each grade, then how many numbers it holds, then the places of these numbers.
+
+abbrev pub sumsPlaces : ℕ
+sumsPlaces = totalsPlaces + gradeCount * totalsPlaces
+
+abbrev pub trainPlaces : ℕ
+trainPlaces = sumsPlaces + 1 + mostCars
+
+abbrev pub sumsOf : List ℕ → Sums
+sumsOf l = record { all = totalsAt l 0; grades = totalsAt l 5 ∷ totalsAt l 10 ∷ totalsAt l 15 ∷ totalsAt l 20 ∷ [] }
+
+abbrev pub trainOf : List ℕ → Train
+trainOf l = record { sums = sumsOf l; held = getD l sumsPlaces 0; numbers = drop (sumsPlaces + 1) l }
+
+abbrev pub gradesNumbers : List Totals → List ℕ
+gradesNumbers [] = []
+gradesNumbers (t ∷ ts) = totalsNumbers t ++ gradesNumbers ts
+
+abbrev pub sumsNumbers : Sums → List ℕ
+sumsNumbers s = totalsNumbers (s .all) ++ gradesNumbers (s .grades)
 
 abbrev pub trainNumbers : Train → List ℕ
-trainNumbers t = trainCounts t ++ t .numbers
+trainNumbers t = sumsNumbers (t .sums) ++ (t .held ∷ t .numbers)
 
 unfoldable pub trainSized : List ℕ → List ℕ → List ℕ → List ℕ → List ℕ → List ℕ → List ℕ → Bool
 trainSized train types rows levels capacities car figures =

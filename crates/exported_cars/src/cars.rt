@@ -1,6 +1,5 @@
 // A car worked out alone, and the running train.
 ghost use mathlib.Core.Path.{_≡_};
-ghost use Prim.Native.Nat.{_+_, _*_};
 ghost use lib.ListN.{length};
 ghost use Rattle.reading.specs.Letter.{mostFields};
 ghost use Rattle.car.specs.Car.{carOf, aloneAnswer, carTold};
@@ -12,14 +11,14 @@ ghost use Rattle.exported_cars.specs.Layout.{
   carSized,
   trainSized,
   figureCount,
-  joined,
   trainPlaces,
   trainOf,
   trainNumbers,
   TrainHanded,
 };
 use crate::tables;
-use base::MOST_CARS;
+use crate::trains;
+use crate::trains::TRAIN_PLACES;
 use car::Car;
 use car::CarAnswer;
 use exported_parts::BAD_LENGTH;
@@ -29,14 +28,6 @@ use train::Train;
 
 // How many numbers an accepted car shows.
 const FIGURES: usize = 6;
-
-// A train in a slice: six counts, which are its accepted cars, gross and net in kg, each as a low and a high half of 32 bits,
-// and how many numbers it holds; then a place for each of these.
-const COUNT_PLACES: usize = 6;
-
-const TRAIN_PLACES: usize = COUNT_PLACES + MOST_CARS;
-
-const HALF: u64 = 4_294_967_296;
 
 // Whether the slices of a car, its tables and its figures have the lengths that they must have.
 fn car_fits(
@@ -76,47 +67,6 @@ fn car_of(numbers: &[u32]) -> Car
         water: numbers[12],
         impurities: numbers[13],
     }
-}
-
-// A number by its halves of 32 bits.
-fn joined(low: u32, high: u32) -> u64
-    ensures { λ r. ⌜ r ≡ joined low high ⌝ }
-{
-    low as u64 + HALF * high as u64
-}
-
-// The train that lies in a slice.
-fn train_of(numbers: &[u32]) -> Train
-    requires { ⌜ length (now numbers) ≡ trainPlaces ⌝ }
-    ensures { λ r. ⌜ r ≡ trainOf (now (numbers .entry)) ⌝ }
-{
-    let mut held = [0u32; MOST_CARS];
-    exported_parts::copy(&numbers[COUNT_PLACES..], &mut held);
-    Train {
-        accepted: numbers[0],
-        gross: joined(numbers[1], numbers[2]),
-        net: joined(numbers[3], numbers[4]),
-        held: numbers[5],
-        numbers: held,
-    }
-}
-
-// Writes a train into its slice.
-fn write_train(train: Train, to: &mut [u32])
-    requires { ⌜ length (now to) ≡ trainPlaces ⌝ }
-    ensures { λ _. ⌜ now (to .exit) ≡ trainNumbers train ⌝ }
-{
-    let counts = [
-        train.accepted,
-        (train.gross % HALF) as u32,
-        (train.gross / HALF) as u32,
-        (train.net % HALF) as u32,
-        (train.net / HALF) as u32,
-        train.held,
-    ];
-    exported_parts::copy_at(&counts, to, 0);
-    let numbers = train.numbers;
-    exported_parts::copy_at(&numbers, to, COUNT_PLACES);
 }
 
 // Hands a car's answer over: its six figures, or the refusal.
@@ -168,7 +118,7 @@ pub extern "C" fn rack_train_empty(train: &mut [u32]) -> u32
     if train.len() != TRAIN_PLACES {
         return BAD_LENGTH;
     }
-    write_train(Train::empty(), train);
+    trains::write_train(Train::empty(), train);
     0
 }
 
@@ -202,10 +152,10 @@ pub extern "C" fn rack_train_enter(
         let d = tables::directory_of(count, types, rows);
         let level_places = exported_parts::all_places(levels);
         let capacity_places = exported_parts::all_places(capacities);
-        let running = train_of(train);
+        let running = trains::train_of(train);
         let step = running.enter(d, &level_places, &capacity_places, car_of(car));
         let next = step.train;
-        write_train(next, train);
+        trains::write_train(next, train);
         let answer = step.answer;
         return hand_over(answer, figures);
     }

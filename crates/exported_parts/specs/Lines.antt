@@ -4,7 +4,7 @@ use mathlib.Core.Bool.{true}
 use mathlib.Core.List.{List, [], _∷_}
 use Rattle.base.specs.Answer.{Answer, refusal}
 use Rattle.reading.specs.declared.letter.Letter.{Letter}
-use Rattle.reading.specs.declared.letter.Letter.the-variants.{Table, Row, Car, End, CarAccepted, CarRefused, Totals, SheetRefused}
+use Rattle.reading.specs.declared.letter.Letter.the-variants.{Table, Row, Car, End, CarAccepted, CarRefused, Totals, GradeTotals, SheetRefused}
 use Rattle.reading.specs.declared.letter.Line.{Line}
 use Rattle.reading.specs.declared.Found.{Found}
 use Rattle.reading.specs.declared.Found.the-variants.{Is, Nothing}
@@ -35,6 +35,7 @@ allLetters =
     ∷ candidate CarAccepted true
     ∷ candidate CarRefused true
     ∷ candidate Totals true
+    ∷ candidate GradeTotals true
     ∷ candidate SheetRefused true
     ∷ []
 

@@ -69,6 +69,9 @@ fn letter_named(b: u8) -> Found
     if b == b'S' {
         return Found::Is(Letter::Totals);
     }
+    if b == b'G' {
+        return Found::Is(Letter::GradeTotals);
+    }
     if b == b'Z' {
         return Found::Is(Letter::SheetRefused);
     }

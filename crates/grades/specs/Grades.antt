@@ -5,6 +5,7 @@ use mathlib.Core.Bool.{Bool, false, cond, _||_}
 use mathlib.Core.List.{List, [], _∷_, _++_}
 use lib.Dec.{ltb}
 use lib.ListN.{getD}
+use Rattle.base.specs.Limits.{gradeCount}
 use Rattle.base.specs.Answer.{Test, refuseIf}
 use Rattle.base.specs.Numbers.{outside}
 use Rattle.thermal.specs.Limits.{highestTemperature, densityTests}
@@ -12,7 +13,7 @@ use Rattle.thermal.specs.Steps.{density20}
 
 -- 13: grades are 1 to 4, sticks 1 and 2
 abbrev pub gradeBad : ℕ → Bool
-gradeBad grade = outside 1 4 grade
+gradeBad grade = outside 1 gradeCount grade
 
 abbrev pub stickBad : ℕ → Bool
 stickBad stick = outside 1 2 stick

@@ -15,15 +15,16 @@ ghost use Rattle.grades.specs.Grades.{
   density20Tests,
   oilTests,
 };
+use base::GRADES;
 use thermal::Density15;
 use thermal::HIGHEST_TEMPERATURE;
 
 // By grade, 1 to 4, at index grade - 1: the lowest temperature in 0.1 °C, the most water and impurities in 0.01 %.
-const LOWEST_TEMPERATURES: [u32; 4] = [200, 200, 400, 400];
+const LOWEST_TEMPERATURES: [u32; GRADES] = [200, 200, 400, 400];
 
-const WATER: [u32; 4] = [30, 30, 100, 100];
+const WATER: [u32; GRADES] = [30, 30, 100, 100];
 
-const IMPURITIES: [u32; 4] = [10, 12, 50, 100];
+const IMPURITIES: [u32; GRADES] = [10, 12, 50, 100];
 
 // For grades 1 and 2, at index grade - 1: the greatest density at 20 °C, in 0.1 kg/m³.
 const DENSITY_20: [u32; 2] = [9_550, 9_600];
@@ -32,7 +33,7 @@ const DENSITY_20: [u32; 2] = [9_550, 9_600];
 const CONTENT: u32 = 100;
 
 // A table's entry for a grade; 0 for a grade that there is not.
-fn by_grade(limits: [u32; 4], grade: u32) -> u32
+fn by_grade(limits: [u32; GRADES], grade: u32) -> u32
     ensures { λ r. ⌜ r ≡ byGrade limits grade ⌝ }
 {
     if grade < 1 {

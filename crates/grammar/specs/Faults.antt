@@ -8,7 +8,7 @@ use Rattle.base.specs.Answer.{Test, refuseIf}
 use Rattle.base.specs.Limits.{mostCars}
 use Rattle.field.specs.Field.{columns, fieldAt}
 use Rattle.reading.specs.declared.letter.Letter.{Letter}
-use Rattle.reading.specs.declared.letter.Letter.the-variants.{Table as T, Row as R, Car as C, End as E, CarAccepted, CarRefused, Totals, SheetRefused}
+use Rattle.reading.specs.declared.letter.Letter.the-variants.{Table as T, Row as R, Car as C, End as E, CarAccepted, CarRefused, Totals, GradeTotals, SheetRefused}
 use Rattle.reading.specs.declared.Found.{Found}
 use Rattle.reading.specs.declared.Found.the-variants.{Is, Nothing}
 use Rattle.reading.specs.Letter.{byteOf, countOf, widthOf}
@@ -35,6 +35,7 @@ module _ (tables : List Table) (cars : List (List ℕ)) (rest : List ℕ) where
   numberFaults CarAccepted = []
   numberFaults CarRefused = []
   numberFaults Totals = []
+  numberFaults GradeTotals = []
   numberFaults SheetRefused = []
 
   -- 4: no letter that may come next has the first byte. 5: the length is not the letter's. 6: a field is not a number

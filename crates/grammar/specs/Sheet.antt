@@ -6,7 +6,7 @@ use lib.ListN.{length, getD}
 use lib.Dec.{ltb, leb, eqb}
 use Rattle.base.specs.Limits.{mostTables, mostRows, mostCars}
 use Rattle.reading.specs.declared.letter.Letter.{Letter}
-use Rattle.reading.specs.declared.letter.Letter.the-variants.{Table as T, Row as R, Car as C, End as E, CarAccepted, CarRefused, Totals, SheetRefused}
+use Rattle.reading.specs.declared.letter.Letter.the-variants.{Table as T, Row as R, Car as C, End as E, CarAccepted, CarRefused, Totals, GradeTotals, SheetRefused}
 use Rattle.reading.specs.declared.Due.{Due}
 use Rattle.reading.specs.declared.Reading.{Reading}
 use Rattle.reading.specs.declared.Reading.the-variants.{Read, Refused}
@@ -89,6 +89,7 @@ byLetter bytes st E ns = endLine bytes st (getD ns 0 0)
 byLetter bytes st CarAccepted ns = refusedHere st 4
 byLetter bytes st CarRefused ns = refusedHere st 4
 byLetter bytes st Totals ns = refusedHere st 4
+byLetter bytes st GradeTotals ns = refusedHere st 4
 byLetter bytes st SheetRefused ns = refusedHere st 4
 
 abbrev pub byReading : ℕ → State → Reading → List ℕ → Step

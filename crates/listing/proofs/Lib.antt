@@ -1,7 +1,8 @@
+pub mod Paper
 pub mod Appending
 pub mod Cars
 pub mod Lines
 pub mod Laid
+pub mod Totals
 pub mod Run
-pub mod Paper
 pub mod Reconciled

@@ -1,22 +1,24 @@
 -- Every number of every line of an answer fits its field, and a car's line has at most the bytes of an A line.
-use Prim.Native.Nat.{ℕ, _*_, _≤_}
+use Prim.Native.Nat.{ℕ, _+_, _*_, _≤_}
 use mathlib.Core.Path.{_≡_, refl}
 use mathlib.Core.Bool.{true}
 use mathlib.Core.List.{List, [], _∷_}
 use native.Mathlib.Omega.{arith}
-use lib.ListN.{length}
+use lib.ListN.{length, length-append}
 use borrow.Author.Tests.{le-leb}
-use Rattle.base.specs.Limits.{largest, mostCars, highestLevel}
+use Rattle.base.specs.Limits.{largest, gradeCount}
 use Rattle.base.specs.Answer.{lastRefusal, Verdict, accepts, refuses, first, figures, refusal, answer}
 use Rattle.base.proofs.Answer.{numbered, numbered-append, number-most, accepted-parts}
-use Rattle.reading.specs.declared.letter.Letter.the-variants.{CarAccepted}
+use Rattle.base.specs.Lists.{Each}
+use Rattle.reading.specs.declared.letter.Letter.the-variants.{CarAccepted, Totals as S, GradeTotals as G}
 use Rattle.reading.specs.declared.letter.Line.{Line}
 use Rattle.reading.specs.Letter.{widthOf}
-use Rattle.line.specs.Writing.{smallTo}
+use Rattle.line.specs.Writing.{lineOf, smallTo}
+use Rattle.line.proofs.Bytes.{length-lineOf}
 use Rattle.table.specs.Table.{Table, tablesTests, tablesVerdict}
 use Rattle.table.proofs.Table.{tables-numbered}
 use Rattle.table.proofs.Rising.{tables-last-most}
-use Rattle.mass.specs.Inner.{mostInCar, mostColdVolume}
+use Rattle.mass.specs.Inner.{mostColdVolume}
 use Rattle.mass.specs.Steps as steps
 use Rattle.mass.proofs.Bounds.{stickCoefficient-most, hotVolume-most, coldVolume-most}
 use Rattle.car.specs.declared.Car.{Car}
@@ -25,9 +27,14 @@ use Rattle.car.specs.Measured.{gross, net, v0, v15From, mass, measuredTests, si
 use Rattle.car.specs.Car.{measured, carTests, figuresOf}
 use Rattle.car.proofs.Accepted.{Passed, passed-car, known, low, fields, shows}
 use Rattle.car.proofs.Masses.{mass-most}
+use Rattle.train.specs.declared.Totals.{Totals}
+use Rattle.train.specs.declared.Sums.{Sums}
 use Rattle.train.specs.declared.Train.{Train}
 use Rattle.train.specs.Train.{trainTests, admissionTests, enterTests, enterAnswer}
-use Rattle.listing.specs.Listing.{answerLine, totalsLine, sheetRefusedLine}
+use Rattle.train.specs.Inner.{Low, Sound}
+use Rattle.train.proofs.Summing.{grades-low}
+use Rattle.grammar.specs.Text.{textOf}
+use Rattle.listing.specs.Listing.{answerLine, totalsLine, gradeLine, gradeLines, totalsLines, sheetRefusedLine}
 use Rattle.listing.specs.Reconciled.{Small}
 
 -- each test of a car entered in a train has the number of a refusal
@@ -80,14 +87,43 @@ car-fit ts t c good h = by-verdict (first (enterTests ts t c)) refl
     by-verdict (refuses n) e = x-fit (c .number) n h (number-most (enterTests ts t c) (enter-numbered ts t c) e)
     by-verdict accepts e = six-fit ts (c .number) (measured c) h (passed-car c good (accepted-parts (carTests ts c) (admissionTests ts t c) e .1))
 
--- S and Z
-pub totals-fit : (t : Train) → t .accepted ≤ mostCars → t .gross ≤ mostInCar * mostCars → t .net ≤ mostInCar * mostCars → Fit (totalsLine t)
+-- S, G and Z
+pub totals-fit : {t : Totals} → Low t → Fit (totalsLine t)
 unfolding smallTo
-totals-fit t a g n = record {
+totals-fit {t} h = record {
   fourteen = refl;
-  small = simp (le-leb (t .accepted) largest (omega arith), le-leb (t .gross) largest (omega arith), le-leb (t .net) largest (omega arith));
+  small = simp (le-leb (t .accepted) largest (omega (arith, h .few)), le-leb (t .gross) largest (omega (arith, h .gross-low)), le-leb (t .net) largest (omega (arith, h .net-low)));
   width = omega arith;
 }
+
+pub grade-fit : {g : ℕ} {t : Totals} → g ≤ largest → Low t → Fit (gradeLine g t)
+unfolding smallTo
+grade-fit {g} {t} k h = record {
+  fourteen = refl;
+  small = simp (le-leb g largest k, le-leb (t .accepted) largest (omega (arith, h .few)), le-leb (t .gross) largest (omega (arith, h .gross-low)), le-leb (t .net) largest (omega (arith, h .net-low)));
+  width = omega arith;
+}
+
+grades-fit : (g : ℕ) (ts : List Totals) → g + length ts ≤ largest → Each Low ts → Each Fit (gradeLines g ts)
+grades-fit g [] k h = tt
+grades-fit g (t ∷ ts) k (h, hs) = (grade-fit (omega arith) h, grades-fit (g + 1) ts (omega arith) hs)
+
+pub all-fit : {s : Sums} → Sound s → length (s .grades) ≡ gradeCount → Each Fit (totalsLines s)
+all-fit {s} h n = (totals-fit (h .low), grades-fit 1 (s .grades) (omega arith) (grades-low h))
+
+-- how long they are
+grades-length : (g : ℕ) (ts : List Totals) → length (textOf (gradeLines g ts)) ≡ widthOf G * length ts
+unfolding textOf
+grades-length g [] = omega arith
+grades-length g (t ∷ ts) =
+    let l : Line = gradeLine g t in
+    omega (arith, length-append (lineOf l) (textOf (gradeLines (g + 1) ts)), length-lineOf l refl, grades-length (g + 1) ts)
+
+pub totals-length : (s : Sums) → length (s .grades) ≡ gradeCount → length (textOf (totalsLines s)) ≡ widthOf S + gradeCount * widthOf G
+unfolding textOf
+totals-length s n =
+    let l : Line = totalsLine (s .all) in
+    omega (arith, length-append (lineOf l) (textOf (gradeLines 1 (s .grades))), length-lineOf l refl, grades-length 1 (s .grades))
 
 pub sheet-refused-fit : (line number : ℕ) → line ≤ largest → number ≤ largest → Fit (sheetRefusedLine line number)
 unfolding smallTo

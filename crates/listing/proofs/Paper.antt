@@ -11,12 +11,13 @@ use Rattle.thermal.specs.Steps as thermal
 use Rattle.mass.specs.Steps as steps
 use Rattle.car.specs.Measured.{measuredTests, v0, mass, sixFigures}
 use Rattle.car.specs.Car.{carTests}
-use Rattle.train.specs.Train.{full, admissionTests, enterTests, enterAnswer, enterTrain}
+use Rattle.base.specs.Total.{total}
+use Rattle.train.specs.Train.{unsound, full, admissionTests, enterTests, enterAnswer, enterTrain}
 use Rattle.grammar.specs.Sheet.{tableLine, rowLine, carLine, endLine, stepOf, lines, sheetOf}
 use Rattle.grammar.specs.Text.{textOf}
 use Rattle.listing.specs.Listing.{replyOf}
 use Rattle.listing.specs.Paper.{paperSheet, paperListing, smallSheet, PaperExample}
 
 pub paper-example : PaperExample
-unfolding paperSheet paperListing smallSheet textOf replyOf rounded seenTo fieldAt justified fieldOf letterOf feed feedAt good values lineBy lineAt fieldsOf lineOf meanLevel unusedBad disagree interpolated capacityAt capacity.v0 thermal.expansion thermal.exponent thermal.term thermal.series thermal.factor thermal.densityAt steps.stickCoefficient steps.hotVolume steps.coldVolume steps.gross steps.net steps.volume15Of steps.grossOf steps.netOf measuredTests v0 mass sixFigures carTests full admissionTests enterTests enterAnswer enterTrain tableLine rowLine carLine endLine stepOf lines sheetOf
+unfolding paperSheet paperListing smallSheet textOf replyOf rounded seenTo fieldAt justified fieldOf letterOf feed feedAt good values lineBy lineAt fieldsOf lineOf meanLevel unusedBad disagree interpolated capacityAt capacity.v0 thermal.expansion thermal.exponent thermal.term thermal.series thermal.factor thermal.densityAt steps.stickCoefficient steps.hotVolume steps.coldVolume steps.gross steps.net steps.volume15Of steps.grossOf steps.netOf measuredTests v0 mass sixFigures carTests total unsound full admissionTests enterTests enterAnswer enterTrain tableLine rowLine carLine endLine stepOf lines sheetOf
 paper-example = record { listing = refl; no-cars = refl; refused = refl; reply = refl; refused-reply = refl; short = refl }

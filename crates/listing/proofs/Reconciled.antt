@@ -1,29 +1,34 @@
 -- A sheet that was read is listed as demand 3 has it, and every number shown fits its field.
-use Prim.Native.Nat.{ℕ, _≤_, _<_}
-use mathlib.Core.Path.{_≡_, refl, ap, ap₂, sym, _∙_}
+use Prim.Native.Nat.{ℕ, zero, suc, _+_, _≤_, _<_}
+use mathlib.Core.Path.{_≡_, refl, ap, sym, subst, _∙_}
 use mathlib.Core.List.{List, [], _∷_, _++_, append-nil}
 use native.Mathlib.Omega.{arith}
-use lib.ListN.{length}
+use lib.ListN.{length, getD}
 use borrow.Author.Tests.{lt-ltb, le-ltb}
 use Rattle.base.specs.Answer.{accepts, Answer}
 use Rattle.base.specs.Buffer.{put}
 use Rattle.base.specs.Lists.{Each}
-use Rattle.reading.specs.declared.letter.Letter.the-variants.{Totals}
+use Rattle.base.specs.Total.{total}
+use Rattle.reading.specs.declared.letter.Letter.the-variants.{Totals as S}
 use Rattle.reading.specs.declared.letter.Line.{Line}
+use Rattle.reading.specs.Letter.{countOf}
 use Rattle.line.proofs.Bytes.{length-lineOf}
 use Rattle.table.specs.Table.{Table, tablesVerdict}
 use Rattle.table.specs.Layout.{tablesOf}
 use Rattle.car.specs.declared.Measured.{Measured}
-use Rattle.car.specs.Measured.{gross, net}
 use Rattle.car.specs.Car.{carOf, measured}
+use Rattle.train.specs.declared.Totals.{Totals}
+use Rattle.train.specs.declared.Sums.{Sums}
 use Rattle.train.specs.declared.Train.{Train}
+use Rattle.train.specs.Sums.{Shown, ofGrade, totalsOf, sumsOf, gradeTotals, together}
 use Rattle.train.specs.Train.{emptyTrain, enterAnswer}
-use Rattle.train.specs.Book.{Item, car, itemNumber, loads, bookFrom}
+use Rattle.train.specs.Book.{Item, car, itemNumber, loadsOfGrade}
 use Rattle.train.specs.Demand3.{answerTo, trainWith, trainFrom, answersFrom, Close, Answered, entered, InOrder}
+use Rattle.train.specs.Inner.{Reached}
 use Rattle.train.proofs.Taken.{close}
 use Rattle.train.proofs.Order.{in-order}
-use Rattle.train.proofs.Book.{reconciled, train-low}
-use Rattle.grammar.specs.Text.{lineWith, textOf}
+use Rattle.train.proofs.Book.{reconciled, reached-first, reached-sound, reached-four}
+use Rattle.grammar.specs.Text.{textOf}
 use Rattle.grammar.specs.Grammar.{EachCar, WholeSheet}
 use Rattle.grammar.specs.Sheet.{SheetRead, refusedAt, whole, sheetOf}
 use Rattle.grammar.specs.Proper.{Proper, ProperRefusal}
@@ -34,29 +39,71 @@ use Rattle.sheet.specs.declared.Contents.{Contents}
 use Rattle.sheet.specs.declared.Outcome.{Outcome}
 use Rattle.sheet.specs.declared.Outcome.the-variants.{Whole, RefusedAt}
 use Rattle.sheet.specs.Layout.{carsOf, outcomeTold, readIn}
-use Rattle.listing.specs.Listing.{itemsOf, answerLine, totalsLine, sheetRefusedLine, linesFrom, answerLines, sheetNumber, leastBuffer, replyOf, afterAnswer}
-use Rattle.listing.specs.Reconciled.{Small, linesWith, EachAnswered, sumShown, SheetReconciled}
+use Rattle.listing.specs.Listing.{itemsOf, answerLine, totalsLine, gradeLines, totalsLines, sheetRefusedLine, linesFrom, answerLines, sheetNumber, leastBuffer, replyOf, afterAnswer}
+use Rattle.listing.specs.Reconciled.{Small, linesWith, EachAnswered, loadsOf, shownOf, totalsShown, gradesShown, SumOf, SheetReconciled}
 use Rattle.listing.specs.Paper.{PaperExample}
-use Rattle.listing.proofs.Lines.{car-fit, totals-fit, sheet-refused-fit}
+use Rattle.listing.proofs.Lines.{Fit, car-fit, all-fit, sheet-refused-fit}
 use Rattle.listing.proofs.Paper.{paper-example}
 use Rattle.listing.proofs.Run.{number-small, text-most}
 
-lines-small : (ts : List Table) → tablesVerdict ts ≡ accepts → (t : Train) (cars : List (List ℕ)) → EachCar cars → Small (totalsLine (trainFrom t (itemsOf ts cars)))
+lines-small : (ts : List Table) → tablesVerdict ts ≡ accepts → (t : Train) (cars : List (List ℕ)) → EachCar cars → Each Small (totalsLines (trainFrom t (itemsOf ts cars) .sums))
     → Each Small (linesFrom t (itemsOf ts cars))
-lines-small ts good t [] h s = (s, tt)
+lines-small ts good t [] h s = s
 lines-small ts good t (ns ∷ cars) (h, hs) s =
     (car-fit ts t (carOf ns) good (number-small ns h) .small, lines-small ts good (trainWith t (car ts (carOf ns))) cars hs s)
 
--- the lines are those of the answers, then that of the train after the list
-lines-of-answers : (t : Train) (items : List Item) → linesFrom t items ≡ linesWith items (answersFrom t items) ++ (totalsLine (trainFrom t items) ∷ [])
+-- the lines are those of the answers, then those of the train after the list
+lines-of-answers : (t : Train) (items : List Item) → linesFrom t items ≡ linesWith items (answersFrom t items) ++ totalsLines (trainFrom t items .sums)
 lines-of-answers t [] = refl
 lines-of-answers t (i ∷ items) = ap (λ (ls : List Line). answerLine (itemNumber i) (answerTo t i) ∷ ls) (lines-of-answers (trainWith t i) items)
+
+-- totals that are those of the grades together, as lines
+sum-of : (ss : List Shown) → sumsOf ss .all ≡ together (sumsOf ss .grades) → SumOf (totalsLine (sumsOf ss .all)) (gradeLines 1 (sumsOf ss .grades))
+unfolding sumsOf total
+sum-of ss e = record { field = by-place }
+  where
+    by-place : (i : ℕ) → i < countOf S → getD (totalsLine (sumsOf ss .all) .numbers) i 0 ≡ total (λ g. getD (g .numbers) (i + 1) 0) (gradeLines 1 (sumsOf ss .grades))
+    by-place zero h = ap (λ (t : Totals). t .accepted) e
+    by-place (suc zero) h = ap (λ (t : Totals). t .gross) e
+    by-place (suc (suc zero)) h = ap (λ (t : Totals). t .net) e
+    by-place (suc (suc (suc i))) h = absurd (omega arith)
 
 -- what holds of every answer that a car gets entered holds of each
 each-answered : (P : List Table → Measured → Answer → Type 0) → ((ts : List Table) (m : Measured) (a : Answer) → Answered ts m a → P ts m a)
     → (t : Train) (items : List Item) → EachAnswered P items (answersFrom t items)
 each-answered P law t [] = tt
 each-answered P law t (car ts c ∷ items) = (law ts (measured c) (enterAnswer ts t c) (entered t c), each-answered P law (trainWith t (car ts c)) items)
+
+each-small : (ls : List Line) → Each Fit ls → Each Small ls
+each-small [] h = tt
+each-small (l ∷ ls) (h, hs) = (h .small, each-small ls hs)
+
+-- S and the G lines of the train after a list of cars
+module _ (items : List Item) where
+  abbrev after : Sums
+  after = trainFrom emptyTrain items .sums
+
+  counted : length (shownOf items) ≡ length (loadsOf items)
+  unfolding sumsOf totalsOf
+  counted = sym (ap (λ (s : Sums). s .all .accepted) (reconciled items .sums)) ∙ reconciled items .all .count
+
+  -- of a grade whose totals the sums have
+  counted-of : (g : ℕ) → gradeTotals g (sumsOf (shownOf items)) ≡ totalsOf (ofGrade g (shownOf items)) → length (ofGrade g (shownOf items)) ≡ length (loadsOfGrade g (loadsOf items))
+  unfolding totalsOf
+  counted-of g e =
+      sym (ap (λ (s : Sums). gradeTotals g s .accepted) (reconciled items .sums) ∙ ap (λ (t : Totals). t .accepted) e) ∙ reconciled items .grade g .count
+
+  totals-shown : totalsLines after ≡ totalsShown items ∷ gradesShown items
+  unfolding sumsOf totalsOf
+  totals-shown = ap totalsLines (reconciled items .sums) ∙ rw (counted, counted-of 1 refl, counted-of 2 refl, counted-of 3 refl, counted-of 4 refl)
+
+  -- the first line of a list shows the sums of the others
+  abbrev FirstIsSum : List Line → Type 0
+  FirstIsSum [] = ⊥
+  FirstIsSum (s ∷ gs) = SumOf s gs
+
+  shown-split : SumOf (totalsShown items) (gradesShown items)
+  shown-split = subst FirstIsSum (totals-shown) (rw (reconciled items .sums) (sum-of (shownOf items) (rw (reconciled items .sums) at (reconciled items .split))))
 
 pub sheet-reconciled : (bytes : ℕ) (r : SheetRead) → Proper bytes r → SheetReconciled r
 sheet-reconciled bytes (refusedAt line number) p = record {
@@ -65,28 +112,25 @@ sheet-reconciled bytes (refusedAt line number) p = record {
 }
 sheet-reconciled bytes (whole ts cars) p =
     let items = itemsOf ts cars in
-    let low = train-low items in
     let r = reconciled items in
+    let reached : Reached (trainFrom emptyTrain items) = record { items = items; is = refl } in
     record {
       listed = record {
         tables = p .accepted;
         reconciled = r;
-        lines =
-            lines-of-answers emptyTrain items
-            ∙ ap (λ (l : Line). linesWith items (answersFrom emptyTrain items) ++ (l ∷ []))
-            (ap (λ (n : ℕ). lineWith Totals (n ∷ trainFrom emptyTrain items .gross ∷ trainFrom emptyTrain items .net ∷ [])) (r .count)
-            ∙ ap₂ (λ (g n : ℕ). lineWith Totals (length (loads (bookFrom [] items)) ∷ g ∷ n ∷ [])) (r .totals gross) (r .totals net));
+        lines = lines-of-answers emptyTrain items ∙ ap (λ (l : List Line). linesWith items (answersFrom emptyTrain items) ++ l) (totals-shown items);
+        split = shown-split items;
         close = each-answered Close close emptyTrain items;
         order = each-answered InOrder in-order emptyTrain items;
       };
-      small = lines-small ts (p .accepted) emptyTrain cars (p .each) (totals-fit (trainFrom emptyTrain items) (low .0) (low .1 gross) (low .1 net) .small);
+      small = lines-small ts (p .accepted) emptyTrain cars (p .each) (each-small (totalsLines (trainFrom emptyTrain items .sums)) (all-fit (reached-sound reached) (reached-four reached)));
     }
 
 -- no answer is longer than the least buffer
 pub text-fits : (bytes : ℕ) (r : SheetRead) → Proper bytes r → length (textOf (answerLines r)) ≤ leastBuffer
 unfolding textOf
 text-fits bytes (refusedAt line number) p = rw append-nil (omega (arith, length-lineOf (sheetRefusedLine line number) refl))
-text-fits bytes (whole ts cars) p = omega (arith, text-most ts (p .accepted) emptyTrain cars (p .each), p .sixty)
+text-fits bytes (whole ts cars) p = omega (arith, text-most ts (p .accepted) emptyTrain reached-first cars (p .each), p .sixty)
 
 -- The three answers of `answer_sheet`.
 

@@ -1,34 +1,33 @@
 -- The loop over the cars of a sheet: what is written and what is still to be written make the whole listing.
 use Prim.Native.Nat.{ℕ, _+_, _-_, _*_, _≤_, _<_}
-use mathlib.Core.Path.{_≡_, refl, ap, _∙_}
+use mathlib.Core.Path.{_≡_, ap, _∙_}
 use mathlib.Core.Bool.{true}
-use mathlib.Core.List.{List, [], _∷_, append-nil}
+use mathlib.Core.List.{List, [], _∷_}
 use native.Mathlib.Omega.{arith}
 use lib.ListN.{length, getD, take, drop, length-append}
-use Rattle.base.specs.Limits.{largest, mostCars}
+use Rattle.base.specs.Limits.{largest, mostCars, gradeCount}
 use Rattle.base.specs.Answer.{accepts}
 use Rattle.base.specs.Buffer.{put}
 use Rattle.reading.specs.declared.letter.Line.{Line}
-use Rattle.reading.specs.declared.letter.Letter.the-variants.{CarAccepted, Totals}
+use Rattle.reading.specs.declared.letter.Letter.the-variants.{CarAccepted, Totals as S, GradeTotals as G}
 use Rattle.reading.specs.Letter.{widthOf}
 use Rattle.line.specs.Writing.{lineOf, writable}
 use Rattle.line.proofs.Bytes.{small-at, length-lineOf}
 use Rattle.table.specs.Table.{Table, tablesVerdict}
 use Rattle.table.proofs.Arrays.{one-left, none-left}
-use Rattle.car.specs.Measured.{gross, net}
 use Rattle.car.specs.Car.{carOf}
 use Rattle.train.specs.declared.Train.{Train}
 use Rattle.train.specs.Train.{emptyTrain, enterAnswer, enterTrain}
-use Rattle.train.specs.Book.{Item}
-use Rattle.train.specs.Demand3.{trainFrom}
-use Rattle.train.proofs.Book.{train-low}
+use Rattle.train.specs.Book.{Item, car}
+use Rattle.train.specs.Inner.{Reached}
+use Rattle.train.proofs.Book.{reached-first, reached-next, reached-sound, reached-four}
 use Rattle.sheet.specs.Layout.{carsFrom, carsOf}
 use Rattle.grammar.specs.Grammar.{CarNumbers, EachCar}
 use Rattle.sheet.proofs.Arrays.{length-cars}
 use Rattle.grammar.specs.Text.{textOf}
-use Rattle.listing.specs.Listing.{itemsOf, answerLine, totalsLine, totalsLines, linesFrom, leastBuffer}
+use Rattle.listing.specs.Listing.{itemsOf, answerLine, totalsLines, linesFrom, leastBuffer}
 use Rattle.listing.specs.Inner.{Closing}
-use Rattle.listing.proofs.Lines.{Fit, car-fit}
+use Rattle.listing.proofs.Lines.{Fit, car-fit, totals-length}
 use Rattle.listing.proofs.Laid.{Laid, none-laid, line-room, line-laid}
 
 -- the bytes of the lines of cars from a train on
@@ -46,23 +45,24 @@ sheetText ts cars = textOf (sheetLines ts cars)
 pub number-small : (ns : List ℕ) → CarNumbers ns → getD ns 0 0 ≤ largest
 number-small ns h = small-at ns 14 (h .small) 0 (omega arith)
 
--- room for so many cars' lines and S
+-- room for so many cars' lines, S and the G lines
 abbrev pub room : ℕ → ℕ
-room cars = widthOf CarAccepted * cars + widthOf Totals
+room cars = widthOf CarAccepted * cars + widthOf S + gradeCount * widthOf G
 
-pub text-most : (ts : List Table) → tablesVerdict ts ≡ accepts → (t : Train) (cars : List (List ℕ)) → EachCar cars → length (textFrom t (itemsOf ts cars)) ≤ room (length cars)
+pub text-most : (ts : List Table) → tablesVerdict ts ≡ accepts → (t : Train) → Reached t → (cars : List (List ℕ)) → EachCar cars
+    → length (textFrom t (itemsOf ts cars)) ≤ room (length cars)
 unfolding textOf
-text-most ts good t [] h = rw append-nil (omega (arith, length-lineOf (totalsLine t) refl))
-text-most ts good t (ns ∷ cars) (h, hs) =
+text-most ts good t r [] h = omega (arith, totals-length (t .sums) (reached-four r))
+text-most ts good t r (ns ∷ cars) (h, hs) =
     let l : Line = answerLine (getD ns 0 0) (enterAnswer ts t (carOf ns)) in
     let f = car-fit ts t (carOf ns) good (number-small ns h) in
     let later : List ℕ = textFrom (enterTrain ts t (carOf ns)) (itemsOf ts cars) in
-    omega (arith, length-append (lineOf l) later, length-lineOf l (f .fourteen), f .width, text-most ts good (enterTrain ts t (carOf ns)) cars hs)
+    omega (arith, length-append (lineOf l) later, length-lineOf l (f .fourteen), f .width, text-most ts good (enterTrain ts t (carOf ns)) (reached-next (car ts (carOf ns)) r) cars hs)
 
 -- the least buffer has room for every sheet's
 pub sheet-fits : (ts : List Table) → tablesVerdict ts ≡ accepts → (fields : List ℕ) (cars : ℕ) → cars ≤ mostCars → EachCar (carsOf fields cars)
     → length (sheetText ts (carsOf fields cars)) ≤ leastBuffer
-sheet-fits ts good fields cars h e = omega (arith, text-most ts good emptyTrain (carsOf fields cars) e, length-cars fields 0 cars)
+sheet-fits ts good fields cars h e = omega (arith, text-most ts good emptyTrain reached-first (carsOf fields cars) e, length-cars fields 0 cars)
 
 -- the cars from number i on
 abbrev left : List ℕ → ℕ → ℕ → List (List ℕ)
@@ -79,7 +79,7 @@ next-car fields cars i h = ap (carsFrom fields i) (one-left cars i h)
 pub record Written (ts : List Table) (fields : List ℕ) (cars : ℕ) (lent out : List ℕ) (running : Train) (at i : ℕ) : Type 0 where
   pub reached : i ≤ cars
   pub laid : Laid lent 0 (sheetLines ts (carsOf fields cars)) out at (linesFrom running (itemsOf ts (left fields cars i)))
-  pub train : trainFrom running (itemsOf ts (left fields cars i)) ≡ trainFrom emptyTrain (itemsOf ts (carsOf fields cars))
+  pub train : Reached running
   pub each : EachCar (left fields cars i)
 
 pub begun : (ts : List Table) (fields : List ℕ) (cars : ℕ) (lent : List ℕ) → EachCar (carsOf fields cars) → Written ts fields cars lent lent emptyTrain 0 0
@@ -88,7 +88,7 @@ begun ts fields cars lent e =
     record {
       reached = omega arith;
       laid = rw z (none-laid lent 0 (sheetLines ts (carsOf fields cars)));
-      train = ap (λ n. trainFrom emptyTrain (itemsOf ts (carsFrom fields 0 n))) z;
+      train = reached-first;
       each = rw z e;
     }
 
@@ -123,12 +123,10 @@ module _ (ts : List Table) (good : tablesVerdict ts ≡ accepts) (fields : List 
     pub turn : (l : Line) (running′ : Train) (out′ : List ℕ) (at′ : ℕ) → l ≡ line → running′ ≡ entered → out′ ≡ put out at (lineOf l) → at′ ≡ at + widthOf (l .letter) → length out′ ≡ length out
         → Written ts fields cars lent out′ running′ at′ (i + 1)
     turn l running′ out′ at′ el er eo ea en =
-        let rest : List (List ℕ) = left fields cars (i + 1) in
-        let tr : trainFrom entered (itemsOf ts rest) ≡ trainFrom emptyTrain (itemsOf ts (carsOf fields cars)) = rw (next-car fields cars i h) at (m .train) in
         record {
           reached = omega arith;
           laid = rw er (line-laid lent 0 (sheetLines ts (carsOf fields cars)) space out at line later ahead line-fit l out′ at′ el eo ea en);
-          train = ap (λ (r : Train). trainFrom r (itemsOf ts rest)) er ∙ tr;
+          train = rw er (reached-next (car ts (carOf (here fields i))) (m .train));
           each = these .1;
         }
 
@@ -137,17 +135,12 @@ module _ (ts : List Table) (good : tablesVerdict ts ≡ accepts) (fields : List 
     none : left fields cars i ≡ []
     none = ap (carsFrom fields i) (none-left cars i h)
 
-    last : running ≡ trainFrom emptyTrain (itemsOf ts (carsOf fields cars))
-    last = rw none at (m .train)
-
-    closing : Laid lent 0 (sheetLines ts (carsOf fields cars)) out at (totalsLines running)
+    closing : Laid lent 0 (sheetLines ts (carsOf fields cars)) out at (totalsLines (running .sums))
     closing = rw none at (m .laid)
 
-    pub totals-ready : Closing running at (length out)
-    totals-ready =
-        let t = train-low (itemsOf ts (carsOf fields cars)) in
-        record { accepted = rw last (t .0); gross-low = rw last (t .1 gross); net-low = rw last (t .1 net); space = omega (arith, closing .total, closing .same) }
+    pub totals-ready : Closing (running .sums) at (length out)
+    totals-ready = record { sound = reached-sound (m .train); four = reached-four (m .train); space = omega (arith, closing .total, closing .same) }
 
-    pub ended : (out′ : List ℕ) (r : ℕ) → r ≡ at + length (textOf (totalsLines running)) → out′ ≡ put out at (textOf (totalsLines running))
+    pub ended : (out′ : List ℕ) (r : ℕ) → r ≡ at + length (textOf (totalsLines (running .sums))) → out′ ≡ put out at (textOf (totalsLines (running .sums)))
         → (r ≡ length (sheetText ts (carsOf fields cars))) × (out′ ≡ put lent 0 (sheetText ts (carsOf fields cars)))
     ended out′ r er eo = (omega (arith, er, closing .total), eo ∙ closing .bytes)

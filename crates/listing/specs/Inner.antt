@@ -1,12 +1,13 @@
 -- What inner functions of the listing ask for; it is no part of what a listing means.
-use Prim.Native.Nat.{ℕ, _+_, _*_, _≤_}
+use Prim.Native.Nat.{ℕ, _+_, _≤_}
+use mathlib.Core.Path.{_≡_}
 use mathlib.Core.List.{List}
 use lib.ListN.{length}
-use Rattle.base.specs.Limits.{mostCars}
+use Rattle.base.specs.Limits.{mostCars, gradeCount}
 use Rattle.table.specs.declared.Directory.{Directory}
 use Rattle.table.specs.Inner.{Good}
-use Rattle.mass.specs.Inner.{mostInCar}
-use Rattle.train.specs.declared.Train.{Train}
+use Rattle.train.specs.declared.Sums.{Sums}
+use Rattle.train.specs.Inner.{Sound}
 use Rattle.sheet.specs.Layout.{carsOf}
 use Rattle.grammar.specs.Grammar.{EachCar}
 use Rattle.grammar.specs.Text.{textOf}
@@ -19,9 +20,8 @@ pub record Ready (d : Directory) (levels capacities fields : List ℕ) (cars roo
   pub each : EachCar (carsOf fields cars)
   pub space : leastBuffer ≤ room
 
--- a train that at most sixty cars made, whose totals have room from `at` on
-pub record Closing (t : Train) (at room : ℕ) : Type 0 where
-  pub accepted : t .accepted ≤ mostCars
-  pub gross-low : t .gross ≤ mostInCar * mostCars
-  pub net-low : t .net ≤ mostInCar * mostCars
-  pub space : at + length (textOf (totalsLines t)) ≤ room
+-- the sums of a train, whose lines have room from `at` on
+pub record Closing (s : Sums) (at room : ℕ) : Type 0 where
+  pub sound : Sound s
+  pub four : length (s .grades) ≡ gradeCount
+  pub space : at + length (textOf (totalsLines s)) ≤ room

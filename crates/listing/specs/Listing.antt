@@ -1,17 +1,19 @@
--- Answers written: the Z line of a refused sheet, or a line for each car in sheet order and the S line; refusal 1 of document 01.
+-- Answers written: the Z line of a refused sheet, or a line for each car in sheet order, the S line and the four G lines; refusal 1 of document 01.
 use Prim.Native.Nat.{ℕ, _+_, _*_}
 use mathlib.Core.Bool.{cond}
 use mathlib.Core.List.{List, [], _∷_}
 use lib.ListN.{length}
 use lib.Dec.{ltb}
-use Rattle.base.specs.Limits.{mostCars}
+use Rattle.base.specs.Limits.{mostCars, gradeCount}
 use Rattle.base.specs.Answer.{Answer, figures, refusal}
 use Rattle.base.specs.Buffer.{put}
-use Rattle.reading.specs.declared.letter.Letter.the-variants.{CarAccepted, CarRefused, Totals, SheetRefused}
+use Rattle.reading.specs.declared.letter.Letter.the-variants.{CarAccepted, CarRefused, Totals as S, GradeTotals as G, SheetRefused}
 use Rattle.reading.specs.declared.letter.Line.{Line}
 use Rattle.reading.specs.Letter.{widthOf}
 use Rattle.table.specs.Table.{Table}
 use Rattle.car.specs.Car.{carOf}
+use Rattle.train.specs.declared.Totals.{Totals}
+use Rattle.train.specs.declared.Sums.{Sums}
 use Rattle.train.specs.declared.Train.{Train}
 use Rattle.train.specs.Train.{emptyTrain}
 use Rattle.train.specs.Book.{Item, car, itemNumber}
@@ -35,20 +37,29 @@ answerLine number (figures values) = lineWith CarAccepted values
 answerLine number (refusal n) = lineWith CarRefused (number ∷ n ∷ [])
 
 -- S: accepted cars, gross total, net total
-abbrev pub totalsLine : Train → Line
-totalsLine t = lineWith Totals (t .accepted ∷ t .gross ∷ t .net ∷ [])
+abbrev pub totalsLine : Totals → Line
+totalsLine t = lineWith S (t .accepted ∷ t .gross ∷ t .net ∷ [])
+
+-- G: grade, accepted cars, gross total, net total
+abbrev pub gradeLine : ℕ → Totals → Line
+gradeLine g t = lineWith G (g ∷ t .accepted ∷ t .gross ∷ t .net ∷ [])
+
+-- a G line for each, the first of them for the grade g
+abbrev pub gradeLines : ℕ → List Totals → List Line
+gradeLines g [] = []
+gradeLines g (t ∷ ts) = gradeLine g t ∷ gradeLines (g + 1) ts
 
 -- Z: line number, refusal number
 abbrev pub sheetRefusedLine : ℕ → ℕ → Line
 sheetRefusedLine line number = lineWith SheetRefused (line ∷ number ∷ [])
 
--- what stands behind the cars' lines: S
-abbrev pub totalsLines : Train → List Line
-totalsLines t = totalsLine t ∷ []
+-- what stands behind the cars' lines: S, then G for grades 1 to 4
+abbrev pub totalsLines : Sums → List Line
+totalsLines s = totalsLine (s .all) ∷ gradeLines 1 (s .grades)
 
 -- a line for each car, entered one after another from a train, then its totals
 abbrev pub linesFrom : Train → List Item → List Line
-linesFrom t [] = totalsLines t
+linesFrom t [] = totalsLines (t .sums)
 linesFrom t (i ∷ is) = answerLine (itemNumber i) (answerTo t i) ∷ linesFrom (trainWith t i) is
 
 abbrev pub answerLines : SheetRead → List Line
@@ -63,7 +74,7 @@ sheetNumber (whole ts cars) = 0
 
 -- the longest answer, in bytes, and so the least buffer
 abbrev pub leastBuffer : ℕ
-leastBuffer = mostCars * widthOf CarAccepted + widthOf Totals
+leastBuffer = mostCars * widthOf CarAccepted + widthOf S + gradeCount * widthOf G
 
 -- 1: the answer buffer is shorter; the length is 0 and the number 1 is handed back
 unfoldable pub replyOf : List ℕ → ℕ → Reply

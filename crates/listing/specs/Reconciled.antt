@@ -1,23 +1,24 @@
--- The listing beside demand 3: a whole sheet's C lines are such a list of cars on its tables, so that S shows the book's count and totals.
-use Prim.Native.Nat.{ℕ}
+-- The listing beside demand 3: a whole sheet's C lines are such a list of cars on its tables, so that S and the G lines show the book's counts and totals.
+use Prim.Native.Nat.{ℕ, _+_, _<_}
 use mathlib.Core.Path.{_≡_}
 use mathlib.Core.Bool.{true}
 use mathlib.Core.List.{List, [], _∷_, _++_}
-use lib.ListN.{length}
+use lib.ListN.{length, getD}
 use Rattle.base.specs.Answer.{accepts, Answer}
 use Rattle.base.specs.Lists.{Each}
 use Rattle.base.specs.Total.{total}
-use Rattle.reading.specs.declared.letter.Letter.the-variants.{Totals}
+use Rattle.reading.specs.declared.letter.Letter.the-variants.{Totals as S, GradeTotals as G}
 use Rattle.reading.specs.declared.letter.Line.{Line}
 use Rattle.reading.specs.Letter.{countOf}
 use Rattle.line.specs.Writing.{smallTo}
 use Rattle.table.specs.Table.{Table, tablesVerdict}
 use Rattle.car.specs.declared.Measured.{Measured}
-use Rattle.car.specs.Measured.{Mass, gross, net}
+use Rattle.car.specs.Measured.{gross, net}
 use Rattle.car.specs.Car.{measured}
+use Rattle.train.specs.Sums.{Shown, shownMass, ofGrade}
 use Rattle.train.specs.Train.{emptyTrain}
-use Rattle.train.specs.Book.{Item, car, itemNumber, loads, bookFrom}
-use Rattle.train.specs.Demand3.{Close, answersFrom, shown, shownMass, Reconciled, InOrder}
+use Rattle.train.specs.Book.{Item, car, itemNumber, Load, loads, loadsOfGrade, bookFrom}
+use Rattle.train.specs.Demand3.{Close, answersFrom, shown, Reconciled, InOrder}
 use Rattle.grammar.specs.Sheet.{SheetRead, refusedAt, whole}
 use Rattle.grammar.specs.Text.{lineWith}
 use Rattle.listing.specs.Listing.{itemsOf, answerLine, linesFrom, answerLines}
@@ -38,18 +39,38 @@ EachAnswered P [] answers = Unit {0}
 EachAnswered P (i ∷ is) [] = ⊥
 EachAnswered P (car ts c ∷ is) (a ∷ answers) = P ts (measured c) a × EachAnswered P is answers
 
--- the sum of the masses shown for the accepted cars
-abbrev pub sumShown : Mass → List Item → ℕ
-sumShown k items = total (shownMass k) (shown items (answersFrom emptyTrain items))
+-- The numbers of S and of a G line: how many entries with masses, and the sums of the masses shown, of all cars or of one grade.
+
+abbrev pub numbersShown : List Load → List Shown → List ℕ
+numbersShown ls ss = length ls ∷ total (shownMass gross) ss ∷ total (shownMass net) ss ∷ []
+
+abbrev pub loadsOf : List Item → List Load
+loadsOf items = loads (bookFrom [] items)
+
+abbrev pub shownOf : List Item → List Shown
+shownOf items = shown items (answersFrom emptyTrain items)
+
+abbrev pub totalsShown : List Item → Line
+totalsShown items = lineWith S (numbersShown (loadsOf items) (shownOf items))
+
+abbrev pub gradeShown : List Item → ℕ → Line
+gradeShown items g = lineWith G (g ∷ numbersShown (loadsOfGrade g (loadsOf items)) (ofGrade g (shownOf items)))
+
+abbrev pub gradesShown : List Item → List Line
+gradesShown items = gradeShown items 1 ∷ gradeShown items 2 ∷ gradeShown items 3 ∷ gradeShown items 4 ∷ []
+
+-- each number of an S line is the sum of those that stand one place further on G lines
+pub record SumOf (s : Line) (gs : List Line) : Type 0 where
+  pub field : (i : ℕ) → i < countOf S → getD (s .numbers) i 0 ≡ total (λ g. getD (g .numbers) (i + 1) 0) gs
 
 -- a whole sheet: its tables are not refused, and its cars are answered as demand 3 has it
 pub record Listed (ts : List Table) (items : List Item) : Type 0 where
   pub tables : tablesVerdict ts ≡ accepts
   pub reconciled : Reconciled items
-  -- the lines written: each car's answer, then S with the number of the book's entries with masses and the sums of the masses shown
-  pub lines : linesFrom emptyTrain items
-      ≡ linesWith items (answersFrom emptyTrain items)
-      ++ (lineWith Totals (length (loads (bookFrom [] items)) ∷ sumShown gross items ∷ sumShown net items ∷ []) ∷ [])
+  -- the lines written: each car's answer, then S and the four G lines with the number of the book's entries with masses and the sums of the masses shown
+  pub lines : linesFrom emptyTrain items ≡ linesWith items (answersFrom emptyTrain items) ++ (totalsShown items ∷ gradesShown items)
+  -- the S figures are the sums of the G lines
+  pub split : SumOf (totalsShown items) (gradesShown items)
   -- each of these answers keeps its distance and the filling order
   pub close : EachAnswered Close items (answersFrom emptyTrain items)
   pub order : EachAnswered InOrder items (answersFrom emptyTrain items)

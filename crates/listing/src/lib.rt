@@ -11,14 +11,16 @@ ghost use Rattle.base.specs.Limits.{largest, mostCars};
 ghost use Rattle.table.specs.Layout.{tablesOf};
 ghost use Rattle.car.specs.Car.{carOf, carTold};
 ghost use Rattle.train.specs.Train.{emptyTrain};
+ghost use Rattle.train.specs.Inner.{Low};
 ghost use Rattle.grammar.specs.Text.{textOf};
 ghost use Rattle.grammar.specs.Sheet.{sheetOf};
 ghost use Rattle.grammar.specs.ByGrammar.{ReadByGrammar};
 ghost use Rattle.sheet.specs.Layout.{carsOf};
-ghost use Rattle.listing.specs.Listing.{itemsOf, answerLine, totalsLine, totalsLines, sheetRefusedLine, linesFrom, leastBuffer, replyOf, afterAnswer};
+ghost use Rattle.listing.specs.Listing.{itemsOf, answerLine, totalsLine, gradeLine, totalsLines, sheetRefusedLine, linesFrom, leastBuffer, replyOf, afterAnswer};
 ghost use Rattle.listing.specs.Reconciled.{SheetReconciled};
 ghost use Rattle.listing.specs.Paper.{PaperExample};
 ghost use Rattle.listing.specs.Inner.{Ready, Closing};
+use base::GRADES;
 use base::MOST_CARS;
 use car::Car;
 use car::CarAnswer;
@@ -31,10 +33,15 @@ use sheet::Outcome;
 use table::Directory;
 use table::PLACES;
 use thermal::Density15;
+use train::Sums;
+use train::Tally;
+use train::Totals;
 use train::Train;
 
-// The longest answer, in bytes, and so the least buffer: a line for each of sixty cars, and S.
-pub const LEAST_BUFFER: usize = MOST_CARS * reading::CAR_ACCEPTED_BYTES + reading::TOTALS_BYTES;
+// The longest answer, in bytes, and so the least buffer: a line for each of sixty cars, S, and G for each grade.
+pub const LEAST_BUFFER: usize = MOST_CARS * reading::CAR_ACCEPTED_BYTES
+    + reading::TOTALS_BYTES
+    + GRADES * reading::GRADE_TOTALS_BYTES;
 
 // The answer's length in bytes, and the number of the refusal: 1 for too short a buffer, else the sheet's, 0 where it has none.
 pub struct Reply {
@@ -104,17 +111,33 @@ fn answer_line(number: u32, answer: CarAnswer) -> Line
     }
 }
 
-// The S line of a train.
-fn totals_line(train: Train) -> Line
-    requires { ⌜ (train .gross ≤ largest) × (train .net ≤ largest) ⌝ }
-    ensures { λ r. ⌜ r ≡ totalsLine train ⌝ }
+// The S line.
+fn totals_line(t: Totals) -> Line
+    requires { ⌜ Low t ⌝ }
+    ensures { λ r. ⌜ r ≡ totalsLine t ⌝ }
 {
     let mut numbers = [0u32; MOST_FIELDS];
-    numbers[0] = train.accepted;
-    numbers[1] = train.gross as u32;
-    numbers[2] = train.net as u32;
+    numbers[0] = t.accepted;
+    numbers[1] = t.gross as u32;
+    numbers[2] = t.net as u32;
     Line {
         letter: Letter::Totals,
+        numbers,
+    }
+}
+
+// The G line of a grade.
+fn grade_line(grade: u32, t: Totals) -> Line
+    requires { ⌜ Low t ⌝ }
+    ensures { λ r. ⌜ r ≡ gradeLine grade t ⌝ }
+{
+    let mut numbers = [0u32; MOST_FIELDS];
+    numbers[0] = grade;
+    numbers[1] = t.accepted;
+    numbers[2] = t.gross as u32;
+    numbers[3] = t.net as u32;
+    Line {
+        letter: Letter::GradeTotals,
         numbers,
     }
 }
@@ -130,15 +153,23 @@ fn append_line(out: &mut [u8], at: usize, text: Line) -> usize
     }
 }
 
-// Writes the totals of a train from `at` on, and answers the place behind them.
-fn write_totals(out: &mut [u8], at: usize, train: Train) -> usize
-    requires { ⌜ Closing train at (length (now out)) ⌝ }
+// Writes S and the G lines, grades rising, from `at` on, and answers the place behind them.
+fn write_totals(out: &mut [u8], at: usize, sums: Sums) -> usize
+    requires { ⌜ Closing sums at (length (now out)) ⌝ }
     ensures { λ r. ⌜
-        (r ≡ at + length (textOf (totalsLines train)))
-        × (now (out .exit) ≡ put (now (out .entry)) at (textOf (totalsLines train)))
+        (r ≡ at + length (textOf (totalsLines sums)))
+        × (now (out .exit) ≡ put (now (out .entry)) at (textOf (totalsLines sums)))
         ⌝ }
 {
-    append_line(out, at, totals_line(train))
+    let all = sums.all;
+    let mut place = append_line(out, at, totals_line(all));
+    let mut i: usize = 0;
+    while i < GRADES {
+        let of_grade = sums.grades[i];
+        place = append_line(out, place, grade_line(i as u32 + 1, of_grade));
+        i += 1;
+    }
+    place
 }
 
 // Writes the listing: a line for each car, entered one after another, then the totals. Answers its length.
@@ -156,18 +187,25 @@ fn write_listing(
         × (now (out .exit) ≡ put (now (out .entry)) 0 (textOf (linesFrom emptyTrain (itemsOf (tablesOf d (now (levels .entry)) (now (capacities .entry))) (carsOf (now (fields .entry)) cars)))))
         ⌝ }
 {
-    let mut running = Train::empty();
+    let empty = Train::empty();
+    let mut numbers = empty.numbers;
+    let none = empty.sums;
+    let mut tally = Tally {
+        sums: none,
+        held: 0,
+    };
     let mut at: usize = 0;
     let mut i: usize = 0;
     while i < cars {
         let car = car_at(fields, i);
-        let step = train::enter_on(running, d, levels, capacities, car);
-        let answer = step.answer;
-        running = step.train;
+        let entered = train::enter_on(tally, &mut numbers, d, levels, capacities, car);
+        let answer = entered.answer;
+        tally = entered.tally;
         at = append_line(out, at, answer_line(car.number, answer));
         i += 1;
     }
-    write_totals(out, at, running)
+    let sums = tally.sums;
+    write_totals(out, at, sums)
 }
 
 // Writes the Z line: the line number and the refusal.
@@ -188,7 +226,7 @@ fn write_refused(out: &mut [u8], line: u32, number: u32) -> usize
     )
 }
 
-// Answers a sheet into a lent buffer: the listing of its cars, or its Z line; 1 where the buffer has fewer than 3,389 bytes, and
+// Answers a sheet into a lent buffer: the listing of its cars, or its Z line; 1 where the buffer has fewer than 3,541 bytes, and
 // nothing is written. Bytes past the length handed back stay as lent.
 pub fn answer_sheet(text: &[u8], out: &mut [u8]) -> Reply
     ensures { λ r. ⌜

@@ -1,9 +1,9 @@
--- The letters: T, R, C, E of a sheet and A, X, S, Z of an answer, with their bytes and the number of fields of their lines.
+-- The letters: T, R, C, E of a sheet and A, X, S, G, Z of an answer, with their bytes and the number of fields of their lines.
 use Prim.Native.Nat.{ℕ, _+_, _*_}
 use mathlib.Core.Bool.{Bool, true, false}
 use Rattle.field.specs.Field.{columns}
 use Rattle.reading.specs.declared.letter.Letter.{Letter}
-use Rattle.reading.specs.declared.letter.Letter.the-variants.{Table, Row, Car, End, CarAccepted, CarRefused, Totals, SheetRefused}
+use Rattle.reading.specs.declared.letter.Letter.the-variants.{Table, Row, Car, End, CarAccepted, CarRefused, Totals, GradeTotals, SheetRefused}
 
 abbrev pub byteOf : Letter → ℕ
 byteOf Table = 84
@@ -13,6 +13,7 @@ byteOf End = 69
 byteOf CarAccepted = 65
 byteOf CarRefused = 88
 byteOf Totals = 83
+byteOf GradeTotals = 71
 byteOf SheetRefused = 90
 
 -- T, R, C and E are a sheet's, the others an answer's
@@ -24,6 +25,7 @@ ofSheet End = true
 ofSheet CarAccepted = false
 ofSheet CarRefused = false
 ofSheet Totals = false
+ofSheet GradeTotals = false
 ofSheet SheetRefused = false
 
 -- how many fields
@@ -35,6 +37,7 @@ countOf End = 1
 countOf CarAccepted = 6
 countOf CarRefused = 2
 countOf Totals = 3
+countOf GradeTotals = 4
 countOf SheetRefused = 2
 
 -- the line's length in bytes: the letter, its fields, and the line feed

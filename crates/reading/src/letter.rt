@@ -4,7 +4,7 @@ ghost use Prim.Native.Nat.{_≤_};
 ghost use Rattle.reading.specs.Letter.{byteOf, countOf, mostFields};
 use field::COLUMNS;
 
-// T, R, C, E of a sheet; A, X, S, Z of an answer.
+// T, R, C, E of a sheet; A, X, S, G, Z of an answer.
 pub enum Letter {
     Table,
     Row,
@@ -13,6 +13,7 @@ pub enum Letter {
     CarAccepted,
     CarRefused,
     Totals,
+    GradeTotals,
     SheetRefused,
 }
 
@@ -31,6 +32,8 @@ const CAR_REFUSED_FIELDS: usize = 2;
 
 const TOTALS_FIELDS: usize = 3;
 
+const GRADE_TOTALS_FIELDS: usize = 4;
+
 const SHEET_REFUSED_FIELDS: usize = 2;
 
 // How many bytes: the letter, its fields, and the line feed.
@@ -47,6 +50,8 @@ pub const CAR_ACCEPTED_BYTES: usize = 2 + COLUMNS * CAR_ACCEPTED_FIELDS;
 pub const CAR_REFUSED_BYTES: usize = 2 + COLUMNS * CAR_REFUSED_FIELDS;
 
 pub const TOTALS_BYTES: usize = 2 + COLUMNS * TOTALS_FIELDS;
+
+pub const GRADE_TOTALS_BYTES: usize = 2 + COLUMNS * GRADE_TOTALS_FIELDS;
 
 pub const SHEET_REFUSED_BYTES: usize = 2 + COLUMNS * SHEET_REFUSED_FIELDS;
 
@@ -71,6 +76,7 @@ pub fn byte_of(letter: Letter) -> u8
         Letter::CarAccepted => b'A',
         Letter::CarRefused => b'X',
         Letter::Totals => b'S',
+        Letter::GradeTotals => b'G',
         Letter::SheetRefused => b'Z',
     }
 }
@@ -87,6 +93,7 @@ pub fn count_of(letter: Letter) -> usize
         Letter::CarAccepted => CAR_ACCEPTED_FIELDS,
         Letter::CarRefused => CAR_REFUSED_FIELDS,
         Letter::Totals => TOTALS_FIELDS,
+        Letter::GradeTotals => GRADE_TOTALS_FIELDS,
         Letter::SheetRefused => SHEET_REFUSED_FIELDS,
     }
 }

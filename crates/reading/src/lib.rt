@@ -15,6 +15,7 @@ pub use letter::CAR_ACCEPTED_BYTES;
 pub use letter::CAR_BYTES;
 pub use letter::CAR_REFUSED_BYTES;
 pub use letter::END_BYTES;
+pub use letter::GRADE_TOTALS_BYTES;
 pub use letter::Letter;
 pub use letter::Line;
 pub use letter::MOST_FIELDS;

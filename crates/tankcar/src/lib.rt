@@ -41,6 +41,8 @@ pub use car::Car;
 pub use car::CarAnswer;
 pub use car::Figures;
 pub use train::Step;
+pub use train::Sums;
+pub use train::Totals;
 pub use train::Train;
 pub use train::work_out;
 

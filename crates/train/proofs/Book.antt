@@ -1,39 +1,43 @@
 -- For every list of cars from the empty train: each is answered as the book has it, and the train's count and totals are those of the book.
 use Prim.Native.Nat.{ℕ, _+_, _*_, _≤_, _<_}
 use mathlib.Core.Path.{_≡_, refl, sym, ap, ap₂, _∙_}
-use mathlib.Core.Bool.{Bool, true, false, cond, _||_}
+use mathlib.Core.Bool.{cond}
 use mathlib.Core.List.{List, [], _∷_, _++_, map, append-assoc, append-nil}
-use native.Mathlib.Nat.{add-zero, zero-add}
 use native.Mathlib.Numerals.{add-one}
 use native.Mathlib.Omega.{arith}
-use borrow.Author.Tests.{le-ltb, leb-false}
-use lib.Dec.{leb}
+use borrow.Author.Tests.{leb-false}
+use lib.Dec.{leb, eqb}
 use lib.ListN.{length, take, set, length-set, length-append}
 use lib.Seq.{take-suc-set}
-use Rattle.base.specs.Limits.{mostCars}
+use Rattle.base.specs.Limits.{mostCars, gradeCount}
 use Rattle.base.specs.Answer.{Test, refuseIf, Verdict, accepts, refuses, first, Answer, answer}
-use Rattle.base.specs.Fraction.{Frac, Within}
+use Rattle.base.specs.Fraction.{Within}
 use Rattle.base.specs.Numbers.{member}
 use Rattle.base.specs.Lists.{Each}
 use Rattle.base.specs.Total.{total, totalˣ, selected}
 use Rattle.base.proofs.Answer.{not-applied, accepted-parts, followed, first-append}
 use Rattle.base.proofs.Near.{within-weaken}
+use Rattle.base.proofs.Numbers.{inside}
 use Rattle.base.proofs.Lists.{each-append, each-selected, map-append, length-map, selected-map}
-use Rattle.base.proofs.Total.{total-append, total-map, totalˣ-map, total-within, total-same}
+use Rattle.base.proofs.Total.{total-map, totalˣ-map, total-within, total-same, total-most}
 use Rattle.table.specs.Table.{Table, tablesTests, tablesVerdict}
 use Rattle.thermal.specs.Exact.{Power}
 use Rattle.mass.specs.Inner.{mostInCar}
 use Rattle.car.specs.declared.Car.{Car}
-use Rattle.car.specs.declared.Measured.{Measured}
 use Rattle.car.specs.Measured.{Mass, gross, net, mass, sixFigures}
 use Rattle.car.specs.Car.{numberTests, measured, carTests, figuresOf}
-use Rattle.car.specs.Exact.{massˣ, distance}
-use Rattle.car.proofs.Accepted.{Passed, passed-car}
+use Rattle.car.specs.Exact.{distance}
+use Rattle.car.proofs.Accepted.{Passed, passed-car, grade-known}
 use Rattle.car.proofs.Masses.{mass-most, mass-near}
+use Rattle.train.specs.declared.Sums.{Sums}
 use Rattle.train.specs.declared.Train.{Train}
-use Rattle.train.specs.Train.{emptyTrain, heldBy, mostInTrain, full, admissionTests, enterTests, enterAnswer, withNumber, withMasses, afterBy, enterTrain}
-use Rattle.train.specs.Book.{Item, car, itemNumber, itemMeasured, Load, exactMass, Entry, alone, loaded, numberIn, loads, bookAdmission, bookOwn, bookVerdict, loadOf, entryBy, bookStep, bookFrom, verdictsFrom}
-use Rattle.train.specs.Demand3.{verdictIn, answerTo, trainWith, trainFrom, answersFrom, totalIn, Shown, shownMass, shown, Near, Reconciled, Continues}
+use Rattle.train.specs.Sums.{Shown, shownMass, ofGrade, totalsOf, sumsOf, sumsWith}
+use Rattle.train.specs.Train.{emptyTrain, heldBy, full, admissionTests, enterTests, enterAnswer, withNumber, withMasses, carShown, afterBy, enterTrain}
+use Rattle.train.specs.Book.{Item, car, Load, exactMass, Entry, alone, loaded, numberIn, loads, loadsOfGrade, bookAdmission, bookOwn, bookVerdict, loadOf, entryBy, bookStep, bookFrom, verdictsFrom}
+use Rattle.train.specs.Demand3.{verdictIn, answerTo, trainWith, trainFrom, answersFrom, shown, Beside, Reconciled, Continues}
+use Rattle.train.specs.Inner.{Sound, Reached}
+use Rattle.train.proofs.Summing.{Known, sums-snoc, sums-none, sums-split, grade-totals, all-of, four-grades}
+use Rattle.train.proofs.Entering.{sound-not}
 
 -- Accepted items.
 
@@ -41,12 +45,9 @@ use Rattle.train.specs.Demand3.{verdictIn, answerTo, trainWith, trainFro
 abbrev Ok : Item → Type 0
 Ok (car ts c) = Passed ts (measured c)
 
--- the masses that are shown of an item, and the exact ones
-abbrev massOf : Mass → Item → ℕ
-massOf k (car ts c) = mass k ts (measured c)
-
+-- what an item adds to the sums
 abbrev shownOf : Item → Shown
-shownOf i = record { measured = itemMeasured i; gross = massOf gross i; net = massOf net i }
+shownOf (car ts c) = carShown ts c
 
 -- those of a list that the book accepts, by its verdicts
 abbrev chosenBy : Verdict → Verdict → Item → List Item
@@ -63,6 +64,22 @@ loads-append [] c = refl
 loads-append (alone n ∷ b) c = loads-append b c
 loads-append (loaded k ∷ b) c = ap (λ (l : List Load). k ∷ l) (loads-append b c)
 
+-- its grade is one of the four, and its masses are those of a car
+item-known : (i : Item) → Ok i → Known (shownOf i)
+item-known (car ts c) h = inside 1 gradeCount (c .grade) (grade-known ts (measured c) (h .early))
+
+item-most : (k : Mass) (i : Item) → Ok i → shownMass k (shownOf i) ≤ mostInCar
+item-most gross (car ts c) h = mass-most ts (measured c) h gross
+item-most net (car ts c) h = mass-most ts (measured c) h net
+
+-- what holds of each item holds of what is shown of it
+each-shown : (P : Shown → Type 0) → ((i : Item) → Ok i → P (shownOf i)) → (l : List Item) → Each Ok l → Each P (map shownOf l)
+each-shown P law [] h = tt
+each-shown P law (i ∷ l) (h, hs) = (law i h, each-shown P law l hs)
+
+all-known : (l : List Item) → Each Ok l → Each Known (map shownOf l)
+all-known l h = each-shown Known item-known l h
+
 -- What the distances of the cars come to.
 
 item-near : (k : Mass) (p : Power) (i : Item) → Ok i → Within 100 (distance k) (shownMass k (shownOf i)) (exactMass k p (loadOf i))
@@ -75,20 +92,22 @@ all-near k p l h =
     rw (length-map loadOf l, ← total-same (distance k) l, total-map shownOf (shownMass k) l, totalˣ-map loadOf (exactMass k p) l)
     (total-within Ok (λ _. distance k) (λ i. shownMass k (shownOf i)) (λ i. exactMass k p (loadOf i)) (item-near k p) l h)
 
-near-all : (l : List Item) → Each Ok l → Near (map shownOf l) (map loadOf l)
-near-all l h = record {
-  within = λ k p. elim k [ gross ↦ within-weaken _ (omega arith) (all-near gross p l h) | net ↦ within-weaken _ (omega arith) (all-near net p l h) ];
+-- the totals of cars beside their entries, and of those of a grade
+beside-all : (l : List Item) → Each Ok l → Beside (totalsOf (map shownOf l)) (map loadOf l)
+unfolding totalsOf
+beside-all l h = record {
+  count = length-map shownOf l ∙ sym (length-map loadOf l);
+  near = λ k p. elim k [ gross ↦ within-weaken _ (omega arith) (all-near gross p l h) | net ↦ within-weaken _ (omega arith) (all-near net p l h) ];
 }
 
-near-chosen : (test : Measured → Bool) (l : List Item) → Each Ok l
-    → Near (selected (λ s. test (s .measured)) (map shownOf l)) (selected (λ x. test (x .measured)) (map loadOf l))
-near-chosen test l h =
-    rw (selected-map shownOf (λ s. test (s .measured)) l, selected-map loadOf (λ x. test (x .measured)) l, same-choice l)
-    (near-all (selected (λ i. test (itemMeasured i)) l) (each-selected Ok (λ i. test (itemMeasured i)) l h))
+beside-grade : (g : ℕ) (l : List Item) → Each Ok l → Beside (totalsOf (ofGrade g (map shownOf l))) (loadsOfGrade g (map loadOf l))
+beside-grade g l h =
+    rw (selected-map shownOf (λ s. eqb (s .grade) g) l, selected-map loadOf (λ x. eqb (x .measured .grade) g) l, same-choice l)
+    (beside-all (selected (λ i. eqb (loadOf i .measured .grade) g) l) (each-selected Ok (λ i. eqb (loadOf i .measured .grade) g) l h))
   where
-    same-choice : (l : List Item) → selected (λ i. test (loadOf i .measured)) l ≡ selected (λ i. test (itemMeasured i)) l
+    same-choice : (l : List Item) → selected (λ i. eqb (shownOf i .grade) g) l ≡ selected (λ i. eqb (loadOf i .measured .grade) g) l
     same-choice [] = refl
-    same-choice (car ts c ∷ l) = ap (λ x. cond (test (measured c)) (car ts c ∷ x) x) (same-choice l)
+    same-choice (car ts c ∷ l) = ap (λ x. cond (eqb (c .grade) g) (car ts c ∷ x) x) (same-choice l)
 
 -- A train beside its book, and the cars accepted so far.
 
@@ -98,22 +117,28 @@ record Matches (t : Train) (b : List Entry) (a : List Item) : Type 0 where
   row : heldBy t ≡ map numberIn b
   room : length b ≤ mostCars
   few : length a ≤ length b
-  count : t .accepted ≡ length a
-  low : (k : Mass) → totalIn k t ≤ mostInCar * length a
+  sums : t .sums ≡ sumsOf (map shownOf a)
   loads : loads b ≡ map loadOf a
   each : Each Ok a
 
-or-nothing : (x : Bool) → (x || false || false || false) ≡ x
-or-nothing true = refl
-or-nothing false = refl
+-- the sums of so few cars are within the limits of a train, and those of its grades
+sums-sound : (a : List Item) → length a ≤ mostCars → Each Ok a → Sound (sumsOf (map shownOf a))
+unfolding sumsOf totalsOf
+sums-sound a h ok =
+    let n : length (map shownOf a) ≡ length a = length-map shownOf a in
+    let most : (k : Mass) → total (shownMass k) (map shownOf a) ≤ mostInCar * length (map shownOf a) = λ k. total-most (shownMass k) mostInCar (map shownOf a) (each-shown (λ s. shownMass k s ≤ mostInCar) (item-most k) a ok) in
+    record {
+      low = record { few = omega arith; gross-low = omega (arith, most gross); net-low = omega (arith, most net) };
+      split = sums-split (map shownOf a) (all-known a ok);
+    }
+
+matched-sound : {t : Train} {b : List Entry} {a : List Item} → Matches t b a → Sound (t .sums)
+matched-sound {t} {b} {a} m = rw (m .sums) (sums-sound a (omega (arith, m .few, m .room)) (m .each))
 
 -- of what fills a train only sixty numbers can be reached
 full-is : (t : Train) (b : List Entry) (a : List Item) → Matches t b a → full t ≡ leb mostCars (length b)
 unfolding full
-full-is t b a m =
-    simp
-    (le-ltb mostCars (t .accepted) (omega arith), le-ltb mostInTrain (t .gross) (omega (arith, m .low gross)), le-ltb mostInTrain (t .net) (omega (arith, m .low net)), m .held)
-    (or-nothing (leb mostCars (length b)))
+full-is t b a m = simp (sound-not t (matched-sound m), m .held)
 
 admission-is : (t : Train) (b : List Entry) (a : List Item) → Matches t b a → (ts : List Table) (c : Car) → admissionTests ts t c ≡ bookAdmission b (car ts c)
 unfolding admissionTests bookAdmission
@@ -140,33 +165,25 @@ row-more t b a e m h =
     ∙ ap (λ (l : List ℕ). l ++ (numberIn e ∷ [])) (m .row)
     ∙ sym (map-append numberIn b (e ∷ []))
 
--- One car: the train and the book match again, the answer is the book's, and the totals grow by the masses shown.
+-- One car: the train and the book match again, and the answer is the book's.
 
-record After (t next : Train) (b : List Entry) (a more : List Item) (i : Item) (ans : Answer) (v : Verdict) : Type 0 where
+record After (next : Train) (b : List Entry) (a more : List Item) (i : Item) (ans : Answer) (v : Verdict) : Type 0 where
   matches : Matches next b (a ++ more)
   verdict : verdictIn ans ≡ v
   shows : (is : List Item) (answers : List Answer) → shown (i ∷ is) (ans ∷ answers) ≡ map shownOf more ++ shown is answers
-  totals : (k : Mass) → totalIn k next ≡ totalIn k t + total (massOf k) more
 
 module _ (t : Train) (b : List Entry) (a : List Item) (m : Matches t b a) (ts : List Table) (c : Car) where
   -- refused by 7 to 11: nothing changes
-  turned-away : (n : ℕ) → After t t (b ++ []) a [] (car ts c) (answer (refuses n) (figuresOf ts c)) (refuses n)
-  unfolding total
+  turned-away : (n : ℕ) → After t (b ++ []) a [] (car ts c) (answer (refuses n) (figuresOf ts c)) (refuses n)
   turned-away n = record {
     matches = rw (append-nil b, append-nil a) m;
     verdict = refl;
     shows = λ is answers. refl;
-    totals = λ k. sym (add-zero (totalIn k t));
   }
 
   -- refused later: its number is held
-  same-totals : (k : Mass) → totalIn k (withNumber t (c .number)) ≡ totalIn k t
-  same-totals gross = refl
-  same-totals net = refl
-
   held-alone : length b < mostCars → (n : ℕ)
-      → After t (withNumber t (c .number)) (b ++ (alone (c .number) ∷ [])) a [] (car ts c) (answer (refuses n) (figuresOf ts c)) (refuses n)
-  unfolding total
+      → After (withNumber t (c .number)) (b ++ (alone (c .number) ∷ [])) a [] (car ts c) (answer (refuses n) (figuresOf ts c)) (refuses n)
   held-alone h n =
       let e : Entry = alone (c .number) in
       let len : length (b ++ (e ∷ [])) ≡ length b + 1 = length-append b (e ∷ []) in
@@ -177,27 +194,21 @@ module _ (t : Train) (b : List Entry) (a : List Item) (m : Matches t b a) (ts : 
           row = row-more t b a e m h;
           room = omega arith;
           few = omega (arith, m .few);
-          count = m .count;
-          low = λ k. rw (same-totals k) (m .low k);
+          sums = m .sums;
           loads = loads-append b (e ∷ []) ∙ append-nil (loads b) ∙ m .loads;
           each = m .each;
         });
         verdict = refl;
         shows = λ is answers. refl;
-        totals = λ k. same-totals k ∙ sym (add-zero (totalIn k t));
       }
 
   -- accepted: its masses are added
   abbrev entered : Train
-  entered = withMasses t (c .number) (mass gross ts (measured c)) (mass net ts (measured c))
-
-  more-total : (k : Mass) → totalIn k entered ≡ totalIn k t + mass k ts (measured c)
-  more-total gross = refl
-  more-total net = refl
+  entered = withMasses t (c .number) (carShown ts c)
 
   weighed : length b < mostCars → Passed ts (measured c)
-      → After t entered (b ++ (loaded (loadOf (car ts c)) ∷ [])) a (car ts c ∷ []) (car ts c) (answer accepts (figuresOf ts c)) accepts
-  unfolding total sixFigures mass
+      → After entered (b ++ (loaded (loadOf (car ts c)) ∷ [])) a (car ts c ∷ []) (car ts c) (answer accepts (figuresOf ts c)) accepts
+  unfolding sixFigures mass
   weighed h ok =
       let i : Item = car ts c in
       let e : Entry = loaded (loadOf i) in
@@ -210,25 +221,26 @@ module _ (t : Train) (b : List Entry) (a : List Item) (m : Matches t b a) (ts : 
           row = row-more t b a e m h;
           room = omega arith;
           few = omega (arith, m .few);
-          count = omega (arith, m .count);
-          low = λ k. omega (arith, more-total k, m .low k, mass-most ts (measured c) ok k);
+          sums =
+              ap (λ (x : Sums). sumsWith x (carShown ts c)) (m .sums)
+              ∙ sym (sums-snoc (map shownOf a) (carShown ts c))
+              ∙ ap sumsOf (sym (map-append shownOf a (i ∷ [])));
           loads = loads-append b (e ∷ []) ∙ ap (λ (l : List Load). l ++ (loadOf i ∷ [])) (m .loads) ∙ sym (map-append loadOf a (i ∷ []));
           each = each-append Ok a (i ∷ []) (m .each) (ok, tt);
         };
         verdict = refl;
         shows = λ is answers. refl;
-        totals = λ k. more-total k ∙ ap (λ (x : ℕ). totalIn k t + x) (sym (add-zero (mass k ts (measured c))));
       }
 
   by-verdicts : (admission own : Verdict) → first (bookAdmission b (car ts c)) ≡ admission → first (carTests ts c) ≡ own
-      → After t (afterBy admission own ts t c) (b ++ entryBy admission own (car ts c)) a (chosenBy admission own (car ts c)) (car ts c)
+      → After (afterBy admission own ts t c) (b ++ entryBy admission own (car ts c)) a (chosenBy admission own (car ts c)) (car ts c)
       (answer (followed admission own) (figuresOf ts c)) (followed admission own)
   by-verdicts (refuses n) own p q = turned-away n
   by-verdicts accepts (refuses n) p q = held-alone (place b ts c p) n
   by-verdicts accepts accepts p q = weighed (place b ts c p) (passed-car c (split b ts c p .0) q)
 
   step : let i = car ts c in
-      After t (trainWith t i) (bookStep b i) a (chosenBy (first (bookAdmission b i)) (first (bookOwn i)) i) i (answerTo t i) (bookVerdict b i)
+      After (trainWith t i) (bookStep b i) a (chosenBy (first (bookAdmission b i)) (first (bookOwn i)) i) i (answerTo t i) (bookVerdict b i)
   unfolding enterTrain enterTests enterAnswer
   step =
       let i : Item = car ts c in
@@ -241,16 +253,9 @@ record Run (t : Train) (b : List Entry) (a items : List Item) : Type 0 where
   last : Matches (trainFrom t items) (bookFrom b items) (a ++ acceptedFrom b items)
   answered : map verdictIn (answersFrom t items) ≡ verdictsFrom b items
   shows : shown items (answersFrom t items) ≡ map shownOf (acceptedFrom b items)
-  totals : (k : Mass) → totalIn k (trainFrom t items) ≡ totalIn k t + total (massOf k) (acceptedFrom b items)
 
 run : (items : List Item) (t : Train) (b : List Entry) (a : List Item) → Matches t b a → Run t b a items
-unfolding total
-run [] t b a m = record {
-  last = rw (append-nil a) m;
-  answered = refl;
-  shows = refl;
-  totals = λ k. sym (add-zero (totalIn k t));
-}
+run [] t b a m = record { last = rw (append-nil a) m; answered = refl; shows = refl }
 run (car ts c ∷ items) t b a m =
     let i : Item = car ts c in
     let s = step t b a m ts c in
@@ -261,7 +266,6 @@ run (car ts c ∷ items) t b a m =
       last = rw (append-assoc a more later) at (r .last);
       answered = ap₂ (λ (v : Verdict) (l : List Verdict). v ∷ l) (s .verdict) (r .answered);
       shows = s .shows items (answersFrom (trainWith t i) items) ∙ ap (λ (l : List Shown). map shownOf more ++ l) (r .shows) ∙ sym (map-append shownOf more later);
-      totals = λ k. omega (arith, s .totals k, r .totals k, total-append (massOf k) more later);
     }
 
 start : Matches emptyTrain [] []
@@ -271,36 +275,23 @@ start = record {
   row = refl;
   room = omega arith;
   few = omega arith;
-  count = refl;
-  low = no-totals;
+  sums = sums-none;
   loads = refl;
   each = tt;
 }
-  where
-    no-totals : (k : Mass) → totalIn k emptyTrain ≤ mostInCar * 0
-    no-totals gross = omega arith
-    no-totals net = omega arith
-
--- what is summed of the items shown
-shown-total : (k : Mass) (l : List Item) → total (shownMass k) (map shownOf l) ≡ total (massOf k) l
-shown-total gross l = total-map shownOf (shownMass gross) l
-shown-total net l = total-map shownOf (shownMass net) l
-
-no-total : (k : Mass) → totalIn k emptyTrain ≡ 0
-no-total gross = refl
-no-total net = refl
 
 pub reconciled : (items : List Item) → Reconciled items
 reconciled items =
     let r = run items emptyTrain [] [] start in
     let l : List Item = acceptedFrom [] items in
     let m = r .last in
+    let known = all-known l (m .each) in
     record {
       answered = r .answered;
-      count = m .count ∙ sym (ap length (m .loads) ∙ length-map loadOf l);
-      totals = λ k. omega (arith, r .totals k, no-total k, ap (total (shownMass k)) (r .shows), shown-total k l);
-      near = rw (r .shows, m .loads) (near-all l (m .each));
-      chosen = λ test. rw (r .shows, m .loads) (near-chosen test l (m .each));
+      sums = m .sums ∙ ap sumsOf (sym (r .shows));
+      split = rw (m .sums) (sums-split (map shownOf l) known);
+      all = rw (m .sums, m .loads, all-of (map shownOf l)) (beside-all l (m .each));
+      grade = λ g. rw (m .sums, m .loads, grade-totals (map shownOf l) known g) (beside-grade g l (m .each));
     }
 
 -- One more item behind a list.
@@ -320,8 +311,21 @@ continues t i = record {
   reconciled = λ items. reconciled (items ++ (i ∷ []));
 }
 
--- the count and totals of any train that a list of cars hands back
-pub train-low : (items : List Item) → (trainFrom emptyTrain items .accepted ≤ mostCars) × ((k : Mass) → totalIn k (trainFrom emptyTrain items) ≤ mostInCar * mostCars)
-train-low items =
-    let m = run items emptyTrain [] [] start .last in
-    (omega (arith, m .count, m .few, m .room), λ k. omega (arith, m .low k, m .few, m .room))
+-- A train that a list of cars hands back.
+
+pub reached-first : Reached emptyTrain
+reached-first = record { items = []; is = refl }
+
+pub reached-next : {t : Train} (i : Item) → Reached t → Reached (trainWith t i)
+reached-next i r = record { items = r .items ++ (i ∷ []); is = ap (λ (u : Train). trainWith u i) (r .is) ∙ sym (train-snoc emptyTrain (r .items) i) }
+
+pub reached-sound : {t : Train} → Reached t → Sound (t .sums)
+reached-sound r = rw (r .is) (matched-sound (run (r .items) emptyTrain [] [] start .last))
+
+pub reached-four : {t : Train} → Reached t → length (t .sums .grades) ≡ gradeCount
+reached-four r =
+    let l : List Item = acceptedFrom [] (r .items) in
+    ap (λ (u : Train). length (u .sums .grades)) (r .is) ∙ ap (λ (s : Sums). length (s .grades)) (run (r .items) emptyTrain [] [] start .last .sums) ∙ four-grades (map shownOf l)
+
+pub reached-size : {t : Train} → Reached t → length (t .numbers) ≡ mostCars
+reached-size r = rw (r .is) (run (r .items) emptyTrain [] [] start .last .size)

@@ -1,6 +1,7 @@
 -- The examples, computed from the definitions.
 use mathlib.Core.Path.{refl}
 use Rattle.base.specs.Rounding.{rounded}
+use Rattle.base.specs.Total.{total}
 use Rattle.level.specs.Level.{meanLevel, unusedBad, disagree}
 use Rattle.capacity.specs.Capacity.{interpolated, capacityAt}
 use Rattle.capacity.specs.Capacity as capacity
@@ -8,13 +9,17 @@ use Rattle.thermal.specs.Steps as thermal
 use Rattle.mass.specs.Steps as steps
 use Rattle.car.specs.Measured.{measuredTests, v0, mass}
 use Rattle.car.specs.Car.{carTests, aloneTests, aloneAnswer}
-use Rattle.train.specs.Train.{full, admissionTests, enterTests, enterAnswer, enterTrain}
+use Rattle.train.specs.Train.{unsound, full, admissionTests, enterTests, enterAnswer, enterTrain}
 use Rattle.train.specs.Book.{bookAdmission}
-use Rattle.train.specs.Examples.{list, BookExample, OrderExample, enteredCars, EnterOrder}
+use Rattle.train.specs.Examples.{list, BookExample, mixed, GradesExample, OrderExample, enteredCars, EnterOrder}
 
 pub book-example : BookExample
-unfolding list full bookAdmission admissionTests enterTrain carTests measuredTests rounded meanLevel unusedBad disagree interpolated capacityAt capacity.v0 thermal.expansion thermal.exponent thermal.term thermal.series thermal.factor thermal.densityAt steps.stickCoefficient steps.hotVolume steps.coldVolume steps.gross steps.net steps.volume15Of steps.grossOf steps.netOf v0 mass
-book-example = record { book = refl; verdicts = refl; count = refl; gross = refl; net = refl }
+unfolding total list unsound full bookAdmission admissionTests enterTrain carTests measuredTests rounded meanLevel unusedBad disagree interpolated capacityAt capacity.v0 thermal.expansion thermal.exponent thermal.term thermal.series thermal.factor thermal.densityAt steps.stickCoefficient steps.hotVolume steps.coldVolume steps.gross steps.net steps.volume15Of steps.grossOf steps.netOf v0 mass
+book-example = record { book = refl; verdicts = refl; sums = refl }
+
+pub grades-example : GradesExample
+unfolding total mixed unsound full admissionTests enterTrain carTests measuredTests rounded meanLevel unusedBad disagree interpolated capacityAt capacity.v0 thermal.expansion thermal.exponent thermal.term thermal.series thermal.factor thermal.densityAt steps.stickCoefficient steps.hotVolume steps.coldVolume steps.gross steps.net steps.volume15Of steps.grossOf steps.netOf v0 mass
+grades-example = record { sums = refl }
 
 pub order-example : OrderExample
 unfolding aloneAnswer aloneTests carTests measuredTests rounded meanLevel unusedBad disagree interpolated capacityAt thermal.expansion thermal.exponent thermal.term thermal.series thermal.factor thermal.densityAt
@@ -30,5 +35,5 @@ order-example = record {
 }
 
 pub enter-order : EnterOrder
-unfolding enteredCars full admissionTests enterTests enterAnswer carTests measuredTests
-enter-order = record { each = (refl, (refl, (refl, (refl, (refl, (refl, (refl, (refl, (refl, (refl, (refl, tt))))))))))) }
+unfolding total enteredCars unsound full admissionTests enterTests enterAnswer carTests measuredTests
+enter-order = record { each = (refl, (refl, (refl, (refl, (refl, (refl, (refl, (refl, (refl, (refl, (refl, (refl, (refl, (refl, (refl, (refl, (refl, (refl, tt)))))))))))))))))) }

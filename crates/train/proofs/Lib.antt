@@ -1,5 +1,6 @@
+pub mod Examples
 pub mod Taken
 pub mod Order
-pub mod Book
+pub mod Summing
 pub mod Entering
-pub mod Examples
+pub mod Book

@@ -1,12 +1,13 @@
 -- The book of a train: a row of entries, fed what is handed in only; nothing of it is taken from answers or from the train.
 use Prim.Native.Nat.{ℕ}
 use mathlib.Core.List.{List, [], _∷_, _++_, map}
-use lib.Dec.{leb}
+use lib.Dec.{leb, eqb}
 use lib.ListN.{length}
 use Rattle.base.specs.Limits.{mostCars}
 use Rattle.base.specs.Answer.{Test, refuseIf, Verdict, accepts, refuses, first}
 use Rattle.base.specs.Fraction.{Frac}
 use Rattle.base.specs.Numbers.{member}
+use Rattle.base.specs.Total.{selected}
 use Rattle.table.specs.Table.{Table, tablesTests}
 use Rattle.thermal.specs.Exact.{Power}
 use Rattle.car.specs.declared.Car.{Car}
@@ -50,6 +51,10 @@ abbrev pub loads : List Entry → List Load
 loads [] = []
 loads (alone number ∷ b) = loads b
 loads (loaded k ∷ b) = k ∷ loads b
+
+-- those of a grade
+abbrev pub loadsOfGrade : ℕ → List Load → List Load
+loadsOfGrade g ls = selected (λ l. eqb (l .measured .grade) g) ls
 
 -- 7 and 8 of its tables, 9 at sixty entries, 10, and 11 where an entry has its number: no entry
 unfoldable pub bookAdmission : List Entry → Item → List Test

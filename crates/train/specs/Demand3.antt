@@ -1,12 +1,11 @@
 -- Demand 3 of document 01: the distance of every accepted car, the book of every list of cars, and the filling order.
 use Prim.Native.Nat.{ℕ, _*_, _≤_}
 use mathlib.Core.Path.{_≡_}
-use mathlib.Core.Bool.{Bool}
 use mathlib.Core.List.{List, [], _∷_, _++_, map}
 use lib.ListN.{length, getD}
 use Rattle.base.specs.Answer.{Verdict, accepts, refuses, Answer, figures, refusal}
 use Rattle.base.specs.Fraction.{Within}
-use Rattle.base.specs.Total.{total, totalˣ, selected}
+use Rattle.base.specs.Total.{totalˣ}
 use Rattle.table.specs.Table.{Table, rowsOf}
 use Rattle.thermal.specs.Exact.{Power}
 use Rattle.car.specs.declared.Car.{Car}
@@ -14,9 +13,11 @@ use Rattle.car.specs.declared.Measured.{Measured}
 use Rattle.car.specs.Measured.{Mass, gross, net}
 use Rattle.car.specs.Car.{measured, aloneAnswer}
 use Rattle.car.specs.Exact.{massˣ, distance, Uncut}
+use Rattle.train.specs.declared.Totals.{Totals}
 use Rattle.train.specs.declared.Train.{Train}
+use Rattle.train.specs.Sums.{Shown, sumsOf, totalIn, gradeTotals, together}
 use Rattle.train.specs.Train.{emptyTrain, enterAnswer, enterTrain}
-use Rattle.train.specs.Book.{Item, car, itemMeasured, Load, exactMass, loads, bookFrom, verdictsFrom}
+use Rattle.train.specs.Book.{Item, car, itemMeasured, Load, exactMass, loads, loadsOfGrade, bookFrom, verdictsFrom}
 
 -- What an answer says: whether the car is accepted, and the masses it shows, which stand fifth and sixth.
 
@@ -57,46 +58,30 @@ abbrev pub answersFrom : Train → List Item → List Answer
 answersFrom t [] = []
 answersFrom t (i ∷ is) = answerTo t i ∷ answersFrom (trainWith t i) is
 
--- the total of a train, in kg
-abbrev pub totalIn : Mass → Train → ℕ
-totalIn gross t = t .gross
-totalIn net t = t .net
-
--- the masses shown for an accepted car
-pub record Shown : Type 0 where
-  pub measured : Measured
-  pub gross : ℕ
-  pub net : ℕ
-
-abbrev pub shownMass : Mass → Shown → ℕ
-shownMass gross s = s .gross
-shownMass net s = s .net
-
--- those of the accepted cars, with the answers they got
+-- the accepted cars, by their grade and the masses of the answers they got
 abbrev pub shown : List Item → List Answer → List Shown
 shown [] answers = []
 shown (i ∷ is) [] = []
-shown (i ∷ is) (figures values ∷ answers) = record { measured = itemMeasured i; gross = getD values (placeOf gross) 0; net = getD values (placeOf net) 0 } ∷ shown is answers
+shown (i ∷ is) (figures values ∷ answers) = record { grade = itemMeasured i .grade; gross = massIn gross (figures values); net = massIn net (figures values) } ∷ shown is answers
 shown (i ∷ is) (refusal number ∷ answers) = shown is answers
 
--- the sums of the masses shown lie within the distances, times the count, of the sums of the exact values, all to power 7 and all to power 8
-pub record Near (ss : List Shown) (ls : List Load) : Type 0 where
-  pub within : (k : Mass) (p : Power) → Within 100 (distance k * length ls) (total (shownMass k) ss) (totalˣ (exactMass k p) ls)
+-- totals beside the book's entries with masses of the same cars: they count them, and lie within the distances, times the count, of the sums of the
+-- exact values, all to power 7 and all to power 8
+pub record Beside (t : Totals) (ls : List Load) : Type 0 where
+  pub count : t .accepted ≡ length ls
+  pub near : (k : Mass) (p : Power) → Within 100 (distance k * length ls) (totalIn k t) (totalˣ (exactMass k p) ls)
 
 -- one claim about the whole list: the train and the book agree
 pub record Reconciled (items : List Item) : Type 0 where
   -- each car is answered with figures exactly when the book accepts it, else with the book's refusal
   pub answered : map verdictIn (answersFrom emptyTrain items) ≡ verdictsFrom [] items
-  -- the count is the number of entries with masses
-  pub count : trainFrom emptyTrain items .accepted ≡ length (loads (bookFrom [] items))
-  -- the totals are the sums of the gross and net answered for those cars
-  pub totals : (k : Mass) → totalIn k (trainFrom emptyTrain items) ≡ total (shownMass k) (shown items (answersFrom emptyTrain items))
-  pub near : Near (shown items (answersFrom emptyTrain items)) (loads (bookFrom [] items))
-  -- and so do the sums over any selection of the accepted cars
-  pub chosen : (test : Measured → Bool)
-      → Near
-      (selected (λ s. test (s .measured)) (shown items (answersFrom emptyTrain items)))
-      (selected (λ l. test (l .measured)) (loads (bookFrom [] items)))
+  -- count and totals, of all cars and of each grade, are those of the accepted cars, with the gross and net answered for them
+  pub sums : trainFrom emptyTrain items .sums ≡ sumsOf (shown items (answersFrom emptyTrain items))
+  -- those of all cars are the sums of the grades'
+  pub split : trainFrom emptyTrain items .sums .all ≡ together (trainFrom emptyTrain items .sums .grades)
+  -- and they lie beside the book, as do those of each grade beside its entries of that grade
+  pub all : Beside (trainFrom emptyTrain items .sums .all) (loads (bookFrom [] items))
+  pub grade : (g : ℕ) → Beside (gradeTotals g (trainFrom emptyTrain items .sums)) (loadsOfGrade g (loads (bookFrom [] items)))
 
 -- a train t that such a list handed back, with the item i handed in: the answer a and the train handed back next are the longer list's
 pub record Continues (t : Train) (i : Item) (a : Answer) (next : Train) : Type 0 where

@@ -1,3 +1,4 @@
+pub mod Sums
 pub mod Train
 pub mod Book
 pub mod Demand3

@@ -1,6 +1,6 @@
 -- The running train: a car is handed in with it, and it is handed back with the car entered. Refusals 9 and 11 of document 01.
 use Prim.Native.Nat.{ℕ, _+_}
-use mathlib.Core.Bool.{Bool, _||_}
+use mathlib.Core.Bool.{Bool, not, _||_}
 use mathlib.Core.List.{List, [], _∷_, _++_}
 use lib.Dec.{leb, ltb}
 use lib.ListN.{take, set, replicate}
@@ -12,10 +12,11 @@ use Rattle.car.specs.declared.Car.{Car}
 use Rattle.car.specs.Measured.{gross, net, mass}
 use Rattle.car.specs.Car.{numberTests, measured, carTests, figuresOf}
 use Rattle.train.specs.declared.Train.{Train}
+use Rattle.train.specs.Sums.{Shown, noSums, together, sameTotals, sumsWith}
 
 -- no accepted cars, no totals, no numbers
 abbrev pub emptyTrain : Train
-emptyTrain = record { accepted = 0; gross = 0; net = 0; held = 0; numbers = replicate mostCars 0 }
+emptyTrain = record { sums = noSums; held = 0; numbers = replicate mostCars 0 }
 
 -- the car numbers that it holds
 abbrev pub heldBy : Train → List ℕ
@@ -25,9 +26,17 @@ heldBy t = take (t .held) (t .numbers)
 abbrev pub mostInTrain : ℕ
 mostInTrain = 12_000_000
 
--- 9: it holds sixty numbers or more, counts more than sixty accepted cars, or has a total above 12,000,000 kg
+-- it counts more than sixty accepted cars, has a total above 12,000,000 kg, or a count or totals that are not the sums of its grades'
+unfoldable pub unsound : Train → Bool
+unsound t =
+    ltb mostCars (t .sums .all .accepted)
+    || ltb mostInTrain (t .sums .all .gross)
+    || ltb mostInTrain (t .sums .all .net)
+    || not (sameTotals (t .sums .all) (together (t .sums .grades)))
+
+-- 9: it is so, or holds sixty numbers or more
 unfoldable pub full : Train → Bool
-full t = leb mostCars (t .held) || ltb mostCars (t .accepted) || ltb mostInTrain (t .gross) || ltb mostInTrain (t .net)
+full t = unsound t || leb mostCars (t .held)
 
 -- 9 to 11, for a car of this number
 abbrev pub trainTests : Train → ℕ → List Test
@@ -46,29 +55,21 @@ enterAnswer ts t c = answer (first (enterTests ts t c)) (figuresOf ts c)
 
 -- with the car's number held
 abbrev pub withNumber : Train → ℕ → Train
-withNumber t number = record {
-  accepted = t .accepted;
-  gross = t .gross;
-  net = t .net;
-  held = t .held + 1;
-  numbers = set (t .numbers) (t .held) number;
-}
+withNumber t number = record { sums = t .sums; held = t .held + 1; numbers = set (t .numbers) (t .held) number }
 
--- with the number held and the gross g and the net n of an accepted car added
-abbrev pub withMasses : Train → ℕ → ℕ → ℕ → Train
-withMasses t number g n = record {
-  accepted = t .accepted + 1;
-  gross = t .gross + g;
-  net = t .net + n;
-  held = t .held + 1;
-  numbers = set (t .numbers) (t .held) number;
-}
+-- with the number held, and the masses of an accepted car in the sums
+abbrev pub withMasses : Train → ℕ → Shown → Train
+withMasses t number s = record { sums = sumsWith (t .sums) s; held = t .held + 1; numbers = set (t .numbers) (t .held) number }
+
+-- what an accepted car adds to the sums
+abbrev pub carShown : List Table → Car → Shown
+carShown ts c = record { grade = c .grade; gross = mass gross ts (measured c); net = mass net ts (measured c) }
 
 -- the train handed back, by the verdict of 7 to 11 and that of the car's own tests
 abbrev pub afterBy : Verdict → Verdict → List Table → Train → Car → Train
 afterBy (refuses k) own ts t c = t
 afterBy accepts (refuses k) ts t c = withNumber t (c .number)
-afterBy accepts accepts ts t c = withMasses t (c .number) (mass gross ts (measured c)) (mass net ts (measured c))
+afterBy accepts accepts ts t c = withMasses t (c .number) (carShown ts c)
 
 unfoldable pub enterTrain : List Table → Train → Car → Train
 enterTrain ts t c = afterBy (first (admissionTests ts t c)) (first (carTests ts c)) ts t c

@@ -1,18 +1,25 @@
 // The running train: empty, and with one car more entered.
 ghost use mathlib.Core.Path.{_≡_};
 ghost use mathlib.Core.List.{List};
+ghost use lib.ListN.{length};
+ghost use Rattle.base.specs.Limits.{mostCars};
 ghost use Rattle.base.specs.Answer.{firstNumber};
 ghost use Rattle.table.specs.Layout.{tablesOf};
 ghost use Rattle.table.specs.Inner.{Good};
 ghost use Rattle.car.specs.Car.{measured, carTold};
-ghost use Rattle.train.specs.Train.{full, trainTests, emptyTrain, enterAnswer, enterTrain};
+ghost use Rattle.train.specs.Train.{unsound, emptyTrain, enterAnswer, enterTrain};
 ghost use Rattle.train.specs.Book.{Item};
 ghost use Rattle.train.specs.Book.{car as carItem};
 ghost use Rattle.train.specs.Demand3.{Close, Reconciled, Continues, InOrder};
-ghost use Rattle.train.specs.Examples.{BookExample, EnterOrder};
-ghost use Rattle.train.specs.Inner.{withAnswer, Open};
+ghost use Rattle.train.specs.Examples.{BookExample, GradesExample, EnterOrder};
+ghost use Rattle.train.specs.Inner.{lentTrain, placeTests, Sound};
+use crate::Entered;
 use crate::Step;
+use crate::Sums;
+use crate::Tally;
+use crate::Totals;
 use crate::Train;
+use base::GRADES;
 use base::MOST_CARS;
 use car::Car;
 use car::CarAnswer;
@@ -25,68 +32,40 @@ const MOST_IN_TRAIN: u64 = 12_000_000;
 impl Train {
     // A train with no cars.
     pub fn empty() -> Train
-        ensures { λ r. ⌜ (r ≡ emptyTrain) × ((items : List Item) → Reconciled items) × BookExample ⌝ }
+        ensures { λ r. ⌜ (r ≡ emptyTrain) × ((items : List Item) → Reconciled items) × BookExample × GradesExample ⌝ }
     {
-        Train {
+        let none = Totals {
             accepted: 0,
             gross: 0,
             net: 0,
+        };
+        let sums = Sums {
+            all: none,
+            grades: [none; GRADES],
+        };
+        Train {
+            sums,
             held: 0,
             numbers: [0u32; MOST_CARS],
         }
     }
 
-    // 9: whether the train takes no further car.
-    fn is_full(self) -> bool
-        ensures { λ r. ⌜ r ≡ full self ⌝ }
+    // 9 of a train handed in, but for the numbers that it holds: over its limits, or not the sums of its grades.
+    fn is_unsound(self) -> bool
+        ensures { λ r. ⌜ r ≡ unsound self ⌝ }
     {
-        if MOST_CARS <= self.held as usize {
+        let sums = self.sums;
+        let all = sums.all;
+        if MOST_CARS < all.accepted as usize {
             return true;
         }
-        if MOST_CARS < self.accepted as usize {
+        if MOST_IN_TRAIN < all.gross {
             return true;
         }
-        if MOST_IN_TRAIN < self.gross {
+        if MOST_IN_TRAIN < all.net {
             return true;
         }
-        MOST_IN_TRAIN < self.net
-    }
-
-    // 9, 10 or 11 for a car of this number; 0 where none applies.
-    fn refusal(self, number: u32) -> u32
-        ensures { λ r. ⌜ r ≡ firstNumber (trainTests self number) ⌝ }
-    {
-        if self.is_full() {
-            return 9;
-        }
-        let by_number = car::number_refusal(number);
-        if by_number != 0 {
-            return by_number;
-        }
-        if base::holds(&self.numbers, self.held as usize, number) {
-            return 11;
-        }
-        0
-    }
-
-    // The train with the car's number held, and with its masses where it is accepted.
-    fn with_answer(self, number: u32, answer: CarAnswer) -> Train
-        requires { ⌜ Open self ⌝ }
-        ensures { λ r. ⌜ r ≡ withAnswer self number answer ⌝ }
-    {
-        let mut next = self;
-        let held = self.held as usize;
-        next.numbers[held] = number;
-        next.held = self.held + 1;
-        match answer {
-            CarAnswer::Accepted(f) => {
-                next.accepted = self.accepted + 1;
-                next.gross = self.gross + f.gross as u64;
-                next.net = self.net + f.net as u64;
-                next
-            }
-            CarAnswer::Refused(_) => next,
-        }
+        !sums.adds_up()
     }
 
     // Enters a car with its tables: its answer, and the train to hand in with the next.
@@ -113,33 +92,89 @@ impl Train {
                 train: self,
             };
         }
-        enter_on(self, d, levels, capacities, car)
+        if self.is_unsound() {
+            return Step {
+                answer: CarAnswer::Refused(9),
+                train: self,
+            };
+        }
+        let sums = self.sums;
+        let held = self.held;
+        let mut numbers = self.numbers;
+        let entered = enter_on(
+            Tally { sums, held },
+            &mut numbers,
+            d,
+            levels,
+            capacities,
+            car,
+        );
+        let next = entered.tally;
+        let answer = entered.answer;
+        let next_sums = next.sums;
+        let train = Train {
+            sums: next_sums,
+            held: next.held,
+            numbers,
+        };
+        Step { answer, train }
     }
 }
 
-// The same as `enter`, on tables that 7 and 8 do not turn away: for a caller who has tested them once for many cars.
+// 9 to 11 for a car of this number, in a train whose sums are sound; 0 where none applies.
+fn place_refusal(held: u32, numbers: &[u32; MOST_CARS], number: u32) -> u32
+    ensures { λ r. ⌜ r ≡ firstNumber (placeTests held (now (numbers .entry)) number) ⌝ }
+{
+    if MOST_CARS <= held as usize {
+        return 9;
+    }
+    let by_number = car::number_refusal(number);
+    if by_number != 0 {
+        return by_number;
+    }
+    if base::holds(numbers, held as usize, number) {
+        return 11;
+    }
+    0
+}
+
+// The same as `enter`, for a caller with many cars: the numbers lie in an array that is lent, 7 and 8 do not turn the tables away, and
+// the train is known to be sound.
 pub fn enter_on(
-    running: Train,
+    tally: Tally,
+    numbers: &mut [u32; MOST_CARS],
     d: Directory,
     levels: &[u32; PLACES],
     capacities: &[u32; PLACES],
     car: Car,
-) -> Step
-    requires { ⌜ Good d (now levels) (now capacities) ⌝ }
+) -> Entered
+    requires { ⌜ (length (now numbers) ≡ mostCars) × Sound (tally .sums) × Good d (now levels) (now capacities) ⌝ }
     ensures { λ r. ⌜
-        (carTold (r .answer) ≡ enterAnswer (tablesOf d (now (levels .entry)) (now (capacities .entry))) running car)
-        × (r .train ≡ enterTrain (tablesOf d (now (levels .entry)) (now (capacities .entry))) running car)
+        (carTold (r .answer) ≡ enterAnswer (tablesOf d (now (levels .entry)) (now (capacities .entry))) (lentTrain tally (now (numbers .entry))) car)
+        × (lentTrain (r .tally) (now (numbers .exit)) ≡ enterTrain (tablesOf d (now (levels .entry)) (now (capacities .entry))) (lentTrain tally (now (numbers .entry))) car)
         ⌝ }
 {
     let number = car.number;
-    let refusal = running.refusal(number);
+    let held = tally.held;
+    let refusal = place_refusal(held, numbers, number);
     if refusal != 0 {
-        return Step {
+        return Entered {
             answer: CarAnswer::Refused(refusal),
-            train: running,
+            tally,
         };
     }
+    let grade = car.grade;
     let answer = car::work_on(d, levels, capacities, car);
-    let train = running.with_answer(number, answer);
-    Step { answer, train }
+    let before = tally.sums;
+    let sums = before.with_answer(grade, answer);
+    let place = held as usize;
+    numbers[place] = number;
+    let next = Tally {
+        sums,
+        held: held + 1,
+    };
+    Entered {
+        answer,
+        tally: next,
+    }
 }

@@ -15,6 +15,9 @@ const MARGIN: usize = 64;
 /// Refusals are numbered below this.
 const NUMBERS: usize = 23;
 
+/// Bytes of the four G lines.
+const GRADE_LINES: usize = 4 * 38;
+
 fn main() -> ExitCode {
     let arguments: Vec<String> = std::env::args().skip(1).collect();
     let numbers: Option<Vec<u64>> = arguments.iter().map(|text| text.parse().ok()).collect();
@@ -86,13 +89,15 @@ impl Outcome {
     }
 }
 
-/// Bytes of the answer buffer: mostly just enough, at times more, one in eight too few.
+/// Bytes of the answer buffer: mostly just enough, at times more, one in eight too few, of which some
+/// are enough for all but the last byte or for all but the G lines.
 fn room(seed: u64) -> usize {
     let drawn = mix(seed) as usize;
     match drawn % 16 {
         0 => (drawn >> 8) % ANSWER_BYTES,
-        1 => ANSWER_BYTES - 1,
-        2..=5 => ANSWER_BYTES + (drawn >> 8) % 5_000,
+        1 => ANSWER_BYTES - [1, GRADE_LINES][(drawn >> 8) % 2],
+        2 => ANSWER_BYTES + 1,
+        3..=5 => ANSWER_BYTES + (drawn >> 8) % 5_000,
         _ => ANSWER_BYTES,
     }
 }
@@ -116,6 +121,8 @@ struct Tally {
     sheets: u64,
     accepted_sheets: u64,
     accepted_cars: u64,
+    /// Accepted cars of each grade, from 1 to 4.
+    grades: [u64; 4],
     refusals: [u64; NUMBERS],
 }
 
@@ -125,7 +132,8 @@ impl Tally {
         self.sheets += other.sheets;
         self.accepted_sheets += other.accepted_sheets;
         self.accepted_cars += other.accepted_cars;
-        for (here, there) in self.refusals.iter_mut().zip(other.refusals) {
+        let here = self.grades.iter_mut().chain(&mut self.refusals);
+        for (here, there) in here.zip(other.grades.iter().chain(&other.refusals)) {
             *here += there;
         }
         self
@@ -140,7 +148,8 @@ impl Tally {
         for line in outcome.answer().split(|&byte| byte == b'\n') {
             match line.first() {
                 Some(b'A') => self.accepted_cars += 1,
-                Some(b'X') => self.refusals[last_field(line)] += 1,
+                Some(b'X') => self.refusals[field(line, 1)] += 1,
+                Some(b'G') => self.grades[field(line, 0) - 1] += field(line, 1) as u64,
                 _ => {}
             }
         }
@@ -149,6 +158,7 @@ impl Tally {
     fn print(&self) {
         println!("{} sheets answered alike, length, number and every byte", self.sheets);
         println!("accepted: {} sheets, {} cars", self.accepted_sheets, self.accepted_cars);
+        println!("cars accepted, by the G lines of grades 1 to 4: {:?}", self.grades);
         for (kind, range) in [("sheets", 1..10), ("cars", 10..22)] {
             let counts: Vec<String> =
                 range.map(|number| format!("{number}: {}", self.refusals[number])).collect();
@@ -157,8 +167,8 @@ impl Tally {
     }
 }
 
-/// The number in the last nine columns of a line.
-fn last_field(line: &[u8]) -> usize {
-    let text = std::str::from_utf8(&line[line.len() - 9..]).expect("a line of the listing");
+/// The number in a field of a line, from 0 on.
+fn field(line: &[u8], place: usize) -> usize {
+    let text = std::str::from_utf8(&line[1 + 9 * place..][..9]).expect("a line of the listing");
     text.trim_start().parse().expect("a field of the listing")
 }

@@ -18,6 +18,7 @@ pub fn cases() -> Vec<Case> {
         Case::new("refusal-09-space-after-end", after(b" "), "Z 8 9"),
         Case::new("refusal-09-zero-byte-after-end", after(b"\x00"), "Z 8 9"),
         Case::new("refusal-09-second-end", after(&columns("E 1")), "Z 8 9"),
+        Case::new("refusal-09-g-line-after-end", after(&columns("G 1 0 0 0")), "Z 8 9"),
         Case::new("refusal-09-second-sheet", after(&cars_on(TABLE, &[CAR])), "Z 8 9"),
         Case::new("refusal-09-bad-line-after-end", after(b"T 0"), "Z 8 9"),
     ]

@@ -56,8 +56,8 @@ const STEPS: [(&str, &str); 20] = [
 pub fn of(cases: &[Case]) -> String {
     let mut text = format!(
         "# Index of the {} sheets\n\n\
-         Made by `make_conformance`. The rule is that of document 01; lines are counted from 1 on the \
-         sheet.\n\n| Sheet | Rule | Shown by | What it tries |\n|---|---|---|---|\n",
+         Made by `make_conformance`. The rule is that of document 01, for totals by grade that of \
+         document 02 (a); lines are counted from 1 on the sheet.\n\n| Sheet | Rule | Shown by | What it tries |\n|---|---|---|---|\n",
         cases.len()
     );
     let mut sorted: Vec<&Case> = cases.iter().collect();
@@ -92,6 +92,7 @@ fn rule(name: &str) -> String {
         Some("card") => "the rack card".to_string(),
         Some("source") => "the standards".to_string(),
         Some("figures") => "steps 1 to 8".to_string(),
+        Some("totals") => "totals by grade".to_string(),
         _ => step.unwrap_or("the sheet's form").to_string(),
     }
 }
@@ -116,6 +117,7 @@ fn words(name: &str) -> String {
         ("rounding", _) => format!("A rounding: {plain}."),
         ("parting", _) => format!("Told from a program that takes the wrong way: {plain}."),
         ("figures", _) => format!("Figures that a wrong calculation misses: {plain}."),
+        ("totals", _) => format!("Totals of each grade: {plain}."),
         ("card", _) => format!("Figures of the rack card: {plain}."),
         ("source", _) => format!("From the standards: {plain}."),
         _ => format!("The sheet that the rules print: {plain}."),
@@ -130,7 +132,7 @@ fn shown_by(case: &Case) -> String {
         let whole = first[1] == "0";
         return if whole { "the whole sheet".to_string() } else { format!("line {}", first[1]) };
     }
-    let cars: Vec<&str> = listing.lines().filter(|line| !line.starts_with('S')).collect();
+    let cars: Vec<&str> = listing.lines().filter(|line| line.starts_with(['A', 'X'])).collect();
     let begin =
         case.sheet.split(|&byte| byte == b'\n').position(|line| line.first() == Some(&b'C'));
     let Some(begin) = begin else { return "the listing without cars".to_string() };

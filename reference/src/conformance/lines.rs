@@ -29,6 +29,7 @@ fn missing() -> Vec<Case> {
 fn letters() -> Vec<Case> {
     let rack = rack::sheet();
     let start = |text| columns(text);
+    let among_rows = [&columns("G 1 0 0 0")[..], b"R"].concat();
     let after_car = |line: &str| {
         let end = format!("{line}\nE 1");
         change(&rack, 7, &columns("E 1"), &columns(&end))
@@ -42,6 +43,11 @@ fn letters() -> Vec<Case> {
         Case::new("refusal-04-space-before-letter", [b" ", &rack[..]].concat(), "Z 1 4"),
         Case::new("refusal-04-small-letter", change(&rack, 6, b"C", b"c"), "Z 6 4"),
         Case::new("refusal-04-letter-of-the-listing", change(&rack, 6, b"C", b"A"), "Z 6 4"),
+        Case::new("refusal-04-letter-g-of-the-listing", change(&rack, 6, b"C", b"G"), "Z 6 4"),
+        Case::new("refusal-04-sheet-begins-with-a-g-line", start("G 1 0 0 0\nE 0"), "Z 1 4"),
+        Case::new("refusal-04-g-line-among-rows", change(&rack, 3, b"R", &among_rows), "Z 3 4"),
+        Case::new("refusal-04-g-line-after-a-car", after_car("G 3 1 32229 32003"), "Z 7 4"),
+        Case::new("refusal-04-s-line-after-a-car", after_car("S 1 32229 32003"), "Z 7 4"),
         Case::new("refusal-04-empty-line-between", change(&rack, 6, b"C", b"\nC"), "Z 6 4"),
         Case::new("refusal-04-table-while-rows-are-due", change(&rack, 3, b"R", b"T"), "Z 3 4"),
         Case::new("refusal-04-one-row-too-few", without(&rack, 5), "Z 5 4"),
@@ -118,7 +124,12 @@ fn fields() -> Vec<Case> {
         Case::new(
             "accepted-eight-digits",
             change(&cars_on(TABLE, &[CAR]), 6, b"50000001", b"99999999"),
-            "A 99999999 1500 3500000 3392515 32229 32003\nS 1 32229 32003",
+            "A 99999999 1500 3500000 3392515 32229 32003
+             S 1 32229 32003
+             G 1 0 0 0
+             G 2 0 0 0
+             G 3 1 32229 32003
+             G 4 0 0 0",
         ),
     ]
 }

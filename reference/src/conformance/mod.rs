@@ -24,6 +24,7 @@ mod sources;
 pub mod steps;
 mod tables;
 mod text;
+mod totals;
 mod wide;
 
 /// A sheet, the listing it must give, and a name that says what it tries.
@@ -61,6 +62,7 @@ pub fn cases() -> Vec<Case> {
         halves::cases(),
         repeats::cases(),
         wide::cases(),
+        totals::cases(),
     ]
     .into_iter()
     .flatten()

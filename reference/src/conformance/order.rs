@@ -124,7 +124,11 @@ fn of_cars() -> Vec<Case> {
              X 10 20
              X 11 21
              A 12 9 2000 1993 19 19
-             S 1 19 19",
+             S 1 19 19
+             G 1 1 19 19
+             G 2 0 0 0
+             G 3 0 0 0
+             G 4 0 0 0",
         ),
         numbered(
             "order-14-before-15",
@@ -134,19 +138,31 @@ fn of_cars() -> Vec<Case> {
             ],
             "X 1 14
              X 2 15
-             S 0 0 0",
+             S 0 0 0
+             G 1 0 0 0
+             G 2 0 0 0
+             G 3 0 0 0
+             G 4 0 0 0",
         ),
         numbered(
             "order-15-before-16",
             &[Car { readings: [3001, 3003, 0, 0], ..CAR }],
             "X 1 15
-             S 0 0 0",
+             S 0 0 0
+             G 1 0 0 0
+             G 2 0 0 0
+             G 3 0 0 0
+             G 4 0 0 0",
         ),
         numbered(
             "order-16-before-17",
             &[Car { readings: [3001, 3001, 0, 0], water_level: 3001, ..CAR }],
             "X 1 16
-             S 0 0 0",
+             S 0 0 0
+             G 1 0 0 0
+             G 2 0 0 0
+             G 3 0 0 0
+             G 4 0 0 0",
         ),
         numbered(
             "order-20-before-21",
@@ -156,7 +172,11 @@ fn of_cars() -> Vec<Case> {
             ],
             "X 1 20
              X 2 21
-             S 0 0 0",
+             S 0 0 0
+             G 1 0 0 0
+             G 2 0 0 0
+             G 3 0 0 0
+             G 4 0 0 0",
         ),
     ]
 }

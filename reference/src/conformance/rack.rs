@@ -30,7 +30,30 @@ pub const CAR: Car = Car {
 /// What the sheet of the first car alone gives.
 pub const LISTING: &str = "
     A 50000001 1500 3500000 3392515 32229 32003
-    S 1 32229 32003";
+    S 1 32229 32003
+    G 1 0 0 0
+    G 2 0 0 0
+    G 3 1 32229 32003
+    G 4 0 0 0";
+
+/// What comes after the cars where none is accepted.
+pub const NONE_ACCEPTED: &str = "
+    S 0 0 0
+    G 1 0 0 0
+    G 2 0 0 0
+    G 3 0 0 0
+    G 4 0 0 0";
+
+/// What comes after the cars where all that are accepted have the first car's grade.
+pub fn totals(accepted: u32, gross: u32, net: u32) -> String {
+    format!(
+        "S {accepted} {gross} {net}
+         G 1 0 0 0
+         G 2 0 0 0
+         G 3 {accepted} {gross} {net}
+         G 4 0 0 0"
+    )
+}
 
 /// The table and the first car: T on line 1, R on lines 2 to 5, C on line 6, E on line 7.
 pub fn sheet() -> Vec<u8> {
@@ -66,7 +89,11 @@ pub fn cases() -> Vec<Case> {
             cars_on(TABLE, &[CAR, second]),
             "A 50000001 1500 3500000 3392515 32229 32003
              X 50000002 17
-             S 1 32229 32003",
+             S 1 32229 32003
+             G 1 0 0 0
+             G 2 0 0 0
+             G 3 1 32229 32003
+             G 4 0 0 0",
         ),
         numbered(
             "card-levels",
@@ -84,7 +111,11 @@ pub fn cases() -> Vec<Case> {
              A 4 1 2000 1939 18 18
              A 5 3000 7000000 6785030 64458 64007
              X 6 16
-             S 4 128990 128087",
+             S 4 128990 128087
+             G 1 0 0 0
+             G 2 0 0 0
+             G 3 4 128990 128087
+             G 4 0 0 0",
         ),
         numbered(
             "card-temperature-density-water",
@@ -102,7 +133,11 @@ pub fn cases() -> Vec<Case> {
              X 4 19
              X 5 20
              A 6 1500 3500000 3392515 32229 31842
-             S 2 64911 64295",
+             S 2 64911 64295
+             G 1 0 0 0
+             G 2 0 0 0
+             G 3 2 64911 64295
+             G 4 0 0 0",
         ),
         numbered(
             "card-density-at-20-of-grade-1",
@@ -112,7 +147,11 @@ pub fn cases() -> Vec<Case> {
             ],
             "A 1 1500 3500000 3393815 32526 32526
              X 2 21
-             S 1 32526 32526",
+             S 1 32526 32526
+             G 1 1 32526 32526
+             G 2 0 0 0
+             G 3 0 0 0
+             G 4 0 0 0",
         ),
     ]
 }

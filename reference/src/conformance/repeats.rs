@@ -1,6 +1,6 @@
 //! Car numbers that stand on an earlier line, whichever it is and whatever became of its car (11).
 
-use super::rack::{cars_on, CAR, TABLE};
+use super::rack::{cars_on, totals, CAR, NONE_ACCEPTED, TABLE};
 use super::Case;
 use crate::car::Car;
 
@@ -17,7 +17,7 @@ fn again(name: &'static str, own: u32, repeated: &[u32]) -> Case {
     let mut listing: String =
         (1..=own).map(|place| format!("A {} {FIGURES}\n", number(place))).collect();
     repeated.iter().for_each(|&place| listing.push_str(&format!("X {} 11\n", number(place))));
-    listing.push_str(&format!("S {own} {} {}", own * GROSS, own * NET));
+    listing.push_str(&totals(own, own * GROSS, own * NET));
     Case::new(name, cars_on(TABLE, &cars), &listing)
 }
 
@@ -43,7 +43,7 @@ fn sixty_times(name: &'static str, number: u32, refusal: u32) -> Case {
     let accepted = u32::from(number > 0);
     let mut listing: String = (0..accepted).map(|_| format!("A {number} {FIGURES}\n")).collect();
     (accepted..60).for_each(|_| listing.push_str(&format!("X {number} {refusal}\n")));
-    listing.push_str(&format!("S {accepted} {} {}", accepted * GROSS, accepted * NET));
+    listing.push_str(&totals(accepted, accepted * GROSS, accepted * NET));
     Case::new(name, cars_on(TABLE, &[Car { number, ..CAR }; 60]), &listing)
 }
 
@@ -74,7 +74,7 @@ fn refused_before() -> Case {
     Case::new(
         "refusal-11-numbers-of-cars-refused-by-12-to-21",
         cars_on(TABLE, &cars),
-        &format!("{listing}S 0 0 0"),
+        &format!("{listing}{NONE_ACCEPTED}"),
     )
 }
 
@@ -91,6 +91,6 @@ fn alike() -> Case {
     Case::new(
         "accepted-numbers-that-are-nearly-alike",
         cars_on(TABLE, &cars),
-        &format!("{listing}S {count} {} {}", count * GROSS, count * NET),
+        &format!("{listing}{}", totals(count, count * GROSS, count * NET)),
     )
 }

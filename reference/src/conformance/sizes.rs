@@ -1,6 +1,6 @@
 //! Sheets of all sizes: none, few and sixty cars, one to five tables, the longest sheet and longer.
 
-use super::rack::{self, cars_on, CAR, TABLE};
+use super::rack::{self, cars_on, totals, CAR, NONE_ACCEPTED, TABLE};
 use super::text::columns;
 use super::Case;
 use crate::car::Car;
@@ -30,9 +30,9 @@ pub fn cases() -> Vec<Case> {
     let one_byte_more = [full.as_slice(), b"\n"].concat();
 
     vec![
-        Case::new("accepted-no-cars", cars_on(TABLE, &[]), "S 0 0 0"),
+        Case::new("accepted-no-cars", cars_on(TABLE, &[]), NONE_ACCEPTED),
         Case::new("accepted-one-car", rack::sheet(), rack::LISTING),
-        Case::new("accepted-smallest-table", columns("T 1 2\nR 0 0\nR 1 1\nE 0"), "S 0 0 0"),
+        Case::new("accepted-smallest-table", columns("T 1 2\nR 0 0\nR 1 1\nE 0"), NONE_ACCEPTED),
         Case::new(
             "accepted-four-tables-in-any-order",
             cars_on(
@@ -50,7 +50,11 @@ pub fn cases() -> Vec<Case> {
              A 3 1500 3782829 3666658 34833 34589
              A 4 1500 4653846 4510926 42854 42554
              X 5 12
-             S 4 105313 104576",
+             S 4 105313 104576
+             G 1 0 0 0
+             G 2 0 0 0
+             G 3 4 105313 104576
+             G 4 0 0 0",
         ),
         Case::new(
             "accepted-last-car-uses-first-table",
@@ -60,7 +64,11 @@ pub fn cases() -> Vec<Case> {
             ),
             "A 1 1500 3000000 2907870 27625 27432
              A 2 1500 3500000 3392515 32229 32003
-             S 2 59854 59435",
+             S 2 59854 59435
+             G 1 0 0 0
+             G 2 0 0 0
+             G 3 2 59854 59435
+             G 4 0 0 0",
         ),
         Case::new(
             "accepted-same-tables-in-another-order",
@@ -70,19 +78,23 @@ pub fn cases() -> Vec<Case> {
             ),
             "A 1 1500 3000000 2907870 27625 27432
              A 2 1500 3500000 3392515 32229 32003
-             S 2 59854 59435",
+             S 2 59854 59435
+             G 1 0 0 0
+             G 2 0 0 0
+             G 3 2 59854 59435
+             G 4 0 0 0",
         ),
         Case::new("refusal-07-fifth-table", cars_on(&tables, &[CAR]), "Z 16 7"),
         Case::new(
             "accepted-sixty-cars",
             cars_on(TABLE, &sixty),
-            &sixty_lines("1500 3500000 3392515 32229 32003", "1933740 1920180"),
+            &sixty_lines("1500 3500000 3392515 32229 32003", &totals(60, 1_933_740, 1_920_180)),
         ),
         Case::new("refusal-09-sixty-first-car", cars_on(TABLE, &sixty_one), "Z 66 9"),
         Case::new(
             "accepted-longest-sheet-39771-bytes",
             full,
-            &sixty_lines("1500 8333333 8077416 76735 76198", "4604100 4571880"),
+            &sixty_lines("1500 8333333 8077416 76735 76198", &totals(60, 4_604_100, 4_571_880)),
         ),
         Case::new("refusal-02-sheet-of-39772-bytes", one_byte_more, "Z 0 2"),
     ]
@@ -94,9 +106,9 @@ fn sixty_cars(types: u32) -> Vec<Car> {
 }
 
 /// The listing of sixty cars alike.
-fn sixty_lines(figures: &str, totals: &str) -> String {
+pub fn sixty_lines(figures: &str, totals: &str) -> String {
     let mut listing: String = (1..=60).map(|number| format!("A {number} {figures}\n")).collect();
-    listing.push_str(&format!("S 60 {totals}"));
+    listing.push_str(totals);
     listing
 }
 

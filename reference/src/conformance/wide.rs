@@ -24,7 +24,11 @@ pub fn cases() -> Vec<Case> {
              X 11 19
              X 12 20
              X 13 20
-             S 0 0 0",
+             S 0 0 0
+             G 1 0 0 0
+             G 2 0 0 0
+             G 3 0 0 0
+             G 4 0 0 0",
         ),
         numbered(
             "refusal-12-to-20-by-numbers-256-too-high",
@@ -38,7 +42,11 @@ pub fn cases() -> Vec<Case> {
              X 7 13
              X 8 13
              X 9 13
-             S 0 0 0",
+             S 0 0 0
+             G 1 0 0 0
+             G 2 0 0 0
+             G 3 0 0 0
+             G 4 0 0 0",
         ),
         numbered(
             "refusal-15-and-16-by-readings-65536-apart",
@@ -60,7 +68,11 @@ pub fn cases() -> Vec<Case> {
              X 6 16
              A 7 1501 3503000 3395423 32257 32031
              A 8 1501 3503000 3395423 32257 32031
-             S 3 96826 96148",
+             S 3 96826 96148
+             G 1 0 0 0
+             G 2 0 0 0
+             G 3 3 96826 96148
+             G 4 0 0 0",
         ),
         Case::new("refusal-07-type-65537", columns("T 65537 2\nR 0 0\nR 9 9\nE 0"), "Z 1 7"),
         Case::new("refusal-07-65538-rows", columns("T 1 65538\nR 0 0\nR 9 9\nE 0"), "Z 1 7"),

@@ -31,6 +31,7 @@ pub const fn fields(letter: u8) -> Option<usize> {
         b'E' => Some(1),
         b'A' => Some(6),
         b'S' => Some(3),
+        b'G' => Some(4),
         _ => None,
     }
 }

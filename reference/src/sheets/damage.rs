@@ -4,7 +4,7 @@ use super::random::Random;
 use crate::field::COLUMNS;
 
 /// Bytes that a damaged sheet may hold in any place.
-const STRAY: &[u8] = b" \n\r\t0123456789TRCEZAXS+-.,#\x00\x0b\x7f\x80\xa0\xff";
+const STRAY: &[u8] = b" \n\r\t0123456789TRCEZAXSG+-.,#\x00\x0b\x7f\x80\xa0\xff";
 
 /// A few stray bytes that are no sheet.
 pub fn noise(random: &mut Random) -> Vec<u8> {
@@ -130,7 +130,7 @@ fn damage_line(random: &mut Random, mut sheet: Vec<u8>) -> Vec<u8> {
         4 => {
             sheet.splice(start..end, *b"\n");
         }
-        5 => sheet[start] = random.pick(b"TRCEtrce \x00Z"),
+        5 => sheet[start] = random.pick(b"TRCEtrce \x00ZG"),
         6 => sheet.insert(end - 1, random.pick(b" \r0\n")),
         7 => {
             sheet.splice(start..start, *b" ");

@@ -10,7 +10,10 @@ use Rattle.table.specs.Table.{Table}
 use Rattle.table.specs.Layout.{tablesOf}
 use Rattle.sheet.specs.Layout.{carsOf}
 use Rattle.car.specs.declared.Car.{Car}
+use Rattle.train.specs.declared.Train.{Train}
 use Rattle.train.specs.Train.{enterAnswer, enterTrain}
+use Rattle.train.specs.Inner.{lentTrain}
+use Rattle.train.proofs.Book.{reached-size, reached-sound}
 use Rattle.car.specs.Car.{carOf}
 use Rattle.listing.specs.Listing.{answerLine}
 use Rattle.listing.proofs.Run.{sheetText, sheet-fits, Written, begun, car-room, turn, totals-ready, ended}
@@ -18,60 +21,68 @@ use Rattle.listing.proofs.write_listing.Statement.{statement}
 use Rattle.listing.proofs.write_listing.Tie as tie
 
 abbrev Inv-loop : tie.InvT-loop
-Inv-loop out₀ d levels capacities fields cars running₀ at₀ i₀ out running at i = Written (tablesOf d levels capacities) fields cars out₀ out running at i
+Inv-loop out₀ d levels capacities fields cars numbers₀ tally₀ at₀ i₀ out numbers tally at i = Written (tablesOf d levels capacities) fields cars out₀ out (lentTrain tally numbers) at i
 
 abbrev μ-loop : tie.MeasureT-loop
-μ-loop out₀ d levels capacities fields cars running₀ at₀ i₀ out running at i = cars - i
+μ-loop out₀ d levels capacities fields cars numbers₀ tally₀ at₀ i₀ out numbers tally at i = cars - i
 
 abbrev all : tie.Start Inv-loop μ-loop → List Table
 all s = tablesOf (s .args .d) (now (s .args .levels)) (now (s .args .capacities))
+
+-- the train in a turn of the loop
+abbrev train : tie.At-loop Inv-loop μ-loop → Train
+train l = lentTrain (l .loop .tally) (l .loop .numbers)
 
 -- the whole listing has room
 fits : (s : tie.Start Inv-loop μ-loop) → length (sheetText (all s) (carsOf (now (s .args .fields)) (s .args .cars))) ≤ length (now (s .args .out))
 fits s = omega (arith, sheet-fits (all s) (s .pre .good .accepted) (now (s .args .fields)) (s .args .cars) (s .pre .sixty) (s .pre .each), s .pre .space)
 
+-- where the function began
+abbrev began : tie.At-loop Inv-loop μ-loop → tie.Start Inv-loop μ-loop
+began l = l .before .before .before .before .before
+
 -- the line that a turn writes
 the-line : (c : tie.After-answer-line Inv-loop μ-loop) →
-    let l = c .before .before .before .before .before .before in
-    let s = l .before .before .before in
+    let l = c .before .before .before .before .before .before .before in
+    let s = began l in
     let ns = take 14 (drop (14 * l .loop .i) (now (s .args .fields))) in
-    c .answer-line .result ≡ answerLine (carOf ns .number) (enterAnswer (all s) (l .loop .running) (carOf ns))
+    c .answer-line .result ≡ answerLine (carOf ns .number) (enterAnswer (all s) (train l) (carOf ns))
 the-line c =
     let e = c .before .before .before in
-    let k = e .before in
+    let k = e .before .before in
     let l = k .before .before in
-    let s = l .before .before .before in
+    let s = began l in
     c .answer-line .ensures
     ∙ ap (answerLine (k .car-at .result .number)) (e .enter-on .ensures .0)
-    ∙ ap (λ (x : Car). answerLine (x .number) (enterAnswer (all s) (l .loop .running) x)) (k .car-at .ensures)
+    ∙ ap (λ (x : Car). answerLine (x .number) (enterAnswer (all s) (train l) x)) (k .car-at .ensures)
 
 empty-requires : tie.Need-empty-requires Inv-loop μ-loop
 empty-requires c κs = search needs
 
 loop-holds : tie.Need-loop-holds Inv-loop μ-loop
 loop-holds c =
-    let s = c .before .before in
-    rw (c .empty .ensures .0) (begun (all s) (now (s .args .fields)) (s .args .cars) (now (s .args .out)) (s .pre .each))
+    let m = c .before .before in
+    let s = m .before .before in
+    rw (m .empty .ensures .0) (begun (all s) (now (s .args .fields)) (s .args .cars) (now (s .args .out)) (s .pre .each))
 
 car-at-requires : tie.Need-car-at-requires Inv-loop μ-loop
-car-at-requires c κs =
-    let s = c .before .before .before .before in
-    omega (arith, s .pre .sixty)
+car-at-requires c κs = let s = began (c .before) in omega (arith, s .pre .sixty)
 
 enter-on-requires : tie.Need-enter-on-requires Inv-loop μ-loop
-enter-on-requires c κs = let s = c .before .before .before .before .before in s .pre .good
+enter-on-requires c κs =
+    let l = c .before .before .before in
+    let s = began l in
+    (reached-size (l .loop .inv .train), reached-sound (l .loop .inv .train), s .pre .good)
 
 answer-line-requires : tie.Need-answer-line-requires Inv-loop μ-loop
 answer-line-requires c κs = search needs
 
 append-line-requires : tie.Need-append-line-requires Inv-loop μ-loop
 append-line-requires c κs =
-    let t = c .before .before .before .before .before in
+    let t = c .before .before .before .before .before .before in
     let l = t .before in
-    let s = l .before .before .before in
-    rw (the-line c)
-    (car-room (all s) (s .pre .good .accepted) (now (s .args .fields)) (s .args .cars) (now (s .args .out)) (fits s) (l .loop .out) (l .loop .running) (l .loop .at) (l .loop .i) (l .loop .inv)
-    (t .loop-test .taken))
+    let s = began l in
+    rw (the-line c) (car-room (all s) (s .pre .good .accepted) (now (s .args .fields)) (s .args .cars) (now (s .args .out)) (fits s) (l .loop .out) (train l) (l .loop .at) (l .loop .i) (l .loop .inv) (t .loop-test .taken))
 
 add-i : tie.Need-add-i Inv-loop μ-loop
 add-i c = search needs
@@ -84,33 +95,32 @@ loop-again c =
     let w = c .before .before in
     let n = w .before in
     let e = n .before .before .before in
-    let k = e .before in
+    let k = e .before .before in
     let t = k .before in
     let l = t .before in
-    let s = l .before .before .before in
-    turn (all s) (s .pre .good .accepted) (now (s .args .fields)) (s .args .cars) (now (s .args .out)) (fits s) (l .loop .out) (l .loop .running) (l .loop .at) (l .loop .i) (l .loop .inv)
-    (t .loop-test .taken) (n .answer-line .result) (e .enter-on .result .train) (w .append-line .last .0) (w .append-line .result) (the-line n)
-    (e .enter-on .ensures .1 ∙ ap (enterTrain (all s) (l .loop .running)) (k .car-at .ensures)) (w .append-line .ensures .1) (w .append-line .ensures .0) (w .append-line .kept .0)
+    let s = began l in
+    turn (all s) (s .pre .good .accepted) (now (s .args .fields)) (s .args .cars) (now (s .args .out)) (fits s) (l .loop .out) (train l) (l .loop .at) (l .loop .i) (l .loop .inv) (t .loop-test .taken) (n .answer-line .result)
+    (lentTrain (e .enter-on .result .tally) (e .enter-on .last .1 .0)) (w .append-line .last .0) (w .append-line .result) (the-line n)
+    (e .enter-on .ensures .1 ∙ ap (enterTrain (all s) (train l)) (k .car-at .ensures)) (w .append-line .ensures .1) (w .append-line .ensures .0) (w .append-line .kept .0)
 
 write-totals-requires : tie.Need-write-totals-requires Inv-loop μ-loop
 write-totals-requires c κs =
-    let t = c .before in
+    let t = c .before .before in
     let l = t .before in
-    let s = l .before .before .before in
-    totals-ready (all s) (s .pre .good .accepted) (now (s .args .fields)) (s .args .cars) (now (s .args .out)) (fits s) (l .loop .out) (l .loop .running) (l .loop .at) (l .loop .i) (l .loop .inv)
-    (t .loop-test .left)
+    let s = began l in
+    totals-ready (all s) (s .pre .good .accepted) (now (s .args .fields)) (s .args .cars) (now (s .args .out)) (fits s) (l .loop .out) (train l) (l .loop .at) (l .loop .i) (l .loop .inv) (t .loop-test .left)
 
 same-length : tie.Need-same-length Inv-loop μ-loop
-same-length c = let w = c .before .before in w .write-totals .kept .0 ∙ w .before .before .before .loop .inv .laid .same
+same-length c = let w = c .before .before in w .write-totals .kept .0 ∙ w .before .before .before .before .loop .inv .laid .same
 
 returns : tie.Need-returns Inv-loop μ-loop
 returns c =
     let w = c .before .before in
-    let t = w .before .before in
+    let t = w .before .before .before in
     let l = t .before in
-    let s = l .before .before .before in
-    ended (all s) (s .pre .good .accepted) (now (s .args .fields)) (s .args .cars) (now (s .args .out)) (fits s) (l .loop .out) (l .loop .running) (l .loop .at) (l .loop .i) (l .loop .inv)
-    (t .loop-test .left) (w .write-totals .last .0) (w .write-totals .result) (w .write-totals .ensures .0) (w .write-totals .ensures .1)
+    let s = began l in
+    ended (all s) (s .pre .good .accepted) (now (s .args .fields)) (s .args .cars) (now (s .args .out)) (fits s) (l .loop .out) (train l) (l .loop .at) (l .loop .i) (l .loop .inv) (t .loop-test .left) (w .write-totals .last .0)
+    (w .write-totals .result) (w .write-totals .ensures .0) (w .write-totals .ensures .1)
 
 pub write-listing-spec : {M : Type 1} → statement M
 write-listing-spec =

@@ -1,19 +1,17 @@
-//! A car alone and the running train: every field at every limit, every two fields together, every
-//! state of a train near its limits, then trains of cars by lot.
+//! A car alone: every field at every limit, every two fields together, then cars by lot.
 
 use outside::random::Random;
-use outside::{BAD_LENGTH, FIELDS, FIGURES, TRAIN};
+use outside::{BAD_LENGTH, FIELDS, FIGURES};
 use reference::car::{Car, Figures};
 use reference::operations;
 use reference::refusal::Refusal;
-use reference::train::Train;
 
 use crate::figures::ENDS;
 use crate::tables::Given;
 use crate::tally::{Lent, Tally, LENT};
 
 /// A car that no refusal turns away on a table of type 1 that reaches 9 mm.
-const SOUND: [u32; FIELDS] = [50_000_001, 1, 3, 1, 2, 9, 9, 0, 0, 3, 600, 9_500, 50, 20];
+pub const SOUND: [u32; FIELDS] = [50_000_001, 1, 3, 1, 2, 9, 9, 0, 0, 3, 600, 9_500, 50, 20];
 
 /// Numbers near the limits of each field of a car.
 const LIMITS: [&[u32]; FIELDS] = [
@@ -40,7 +38,7 @@ fn numbers(figures: Figures) -> [u32; FIGURES] {
 }
 
 /// A car's answer in lent figures.
-fn handed(answer: Result<Figures, Refusal>, mut lent: Lent) -> (u32, Lent) {
+pub fn handed(answer: Result<Figures, Refusal>, mut lent: Lent) -> (u32, Lent) {
     match answer {
         Ok(figures) => {
             lent.slice().copy_from_slice(&numbers(figures));
@@ -64,7 +62,7 @@ fn compare_car(tally: &mut Tally, given: &Given, car: &[u32], length: usize) {
 }
 
 /// Tables whose first reaches 9 mm, so that every level of it can be tried.
-fn low_tables(random: &mut Random) -> Given {
+pub fn low_tables(random: &mut Random) -> Given {
     let mut given = Given::sound(random, &[3, 2, 4, 5]);
     given.levels[..3].copy_from_slice(&[0, 4, 9]);
     given.capacities[..3].copy_from_slice(&[0, 30_001, 70_000]);
@@ -101,7 +99,7 @@ fn cars_at_limits() -> Vec<[u32; FIELDS]> {
 }
 
 /// A car for some tables, with no fault or a few.
-fn draw(random: &mut Random, given: &Given) -> [u32; FIELDS] {
+pub fn draw(random: &mut Random, given: &Given) -> [u32; FIELDS] {
     let table = random.below((given.count as usize).clamp(1, 4));
     let last = given.last_level(table).clamp(1, 3_600);
     let level = random.between(1, last);
@@ -134,7 +132,7 @@ fn draw(random: &mut Random, given: &Given) -> [u32; FIELDS] {
 }
 
 /// Lengths other than the one that is asked for.
-fn wrong_lengths(right: usize) -> [usize; 4] {
+pub fn wrong_lengths(right: usize) -> [usize; 4] {
     [right - 1, right + 1, 0, 2 * right]
 }
 
@@ -165,7 +163,7 @@ pub fn work_out(times: u64) -> Tally {
 }
 
 /// Tables that are sound, but for one in eight.
-fn draw_tables(random: &mut Random) -> Given {
+pub fn draw_tables(random: &mut Random) -> Given {
     let mut given = Given::draw(random);
     match random.below(16) {
         0 => given.levels[0] = 1,
@@ -173,127 +171,4 @@ fn draw_tables(random: &mut Random) -> Given {
         _ => {}
     }
     given
-}
-
-/// A train as it lies in its slice: accepted cars, the halves of gross and of net, how many numbers
-/// it holds, and their places.
-fn train_of(state: &[u32; TRAIN]) -> Train {
-    let joined = |low: u32, high: u32| u64::from(low) | u64::from(high) << 32;
-    Train {
-        accepted: state[0],
-        gross: joined(state[1], state[2]),
-        net: joined(state[3], state[4]),
-        held: state[5] as usize,
-        numbers: state[6..].try_into().expect("sixty numbers"),
-    }
-}
-
-fn state_of(train: &Train) -> Vec<u32> {
-    let halves = |number: u64| [number as u32, (number >> 32) as u32];
-    let (gross, net) = (halves(train.gross), halves(train.net));
-    let header = [train.accepted, gross[0], gross[1], net[0], net[1], train.held as u32];
-    [&header[..], &train.numbers].concat()
-}
-
-/// Compares a car entered in a train; hands back the train for the next.
-fn compare_enter(
-    tally: &mut Tally,
-    state: &[u32],
-    given: &Given,
-    car: &[u32],
-    length: usize,
-) -> Vec<u32> {
-    let lent = Lent::new(&vec![LENT; length]);
-    let (mut train, mut figures) = (Lent::new(state), lent.clone());
-    let number = outside::train_enter(train.slice(), given.lent(), car, figures.slice());
-    let next = train.slice().to_vec();
-    let fits = given.fits() && length == FIGURES;
-    let expected = match (<[u32; TRAIN]>::try_from(state), <[u32; FIELDS]>::try_from(car)) {
-        (Ok(state), Ok(fields)) if fits => {
-            let mut train = train_of(&state);
-            let answer = operations::enter(&mut train, &given.handed_in(), &Car::from(fields));
-            let (number, figures) = handed(answer, lent);
-            (number, (Lent::new(&state_of(&train)), figures))
-        }
-        _ => (BAD_LENGTH, (Lent::new(state), lent)),
-    };
-    tally.compare((car, state, given), (number, (train, figures)), expected);
-    next
-}
-
-pub fn train_empty() -> Tally {
-    let mut tally = Tally::new("train_empty");
-    for length in 0..=200 {
-        let mut train = Lent::new(&vec![LENT; length]);
-        let number = outside::train_empty(train.slice());
-        let (expected, contents) = if length == TRAIN {
-            (0, state_of(&Train::default()))
-        } else {
-            (BAD_LENGTH, vec![LENT; length])
-        };
-        tally.compare(length, (number, train), (expected, Lent::new(&contents)));
-    }
-    tally
-}
-
-/// States of a train near every limit, with the car's number in and behind the places that count.
-fn trains_at_limits() -> Vec<[u32; TRAIN]> {
-    let totals = [0, 11_999_999, 12_000_000, 12_000_001, 1 << 32, (1 << 32) + 12_000_000, u64::MAX];
-    let mut states = Vec::new();
-    for accepted in [0, 59, 60, 61, u32::MAX] {
-        for gross in totals {
-            for net in totals {
-                for held in [0, 1, 30, 59, 60, 61, u32::MAX] {
-                    for place in [0, 29, 30, 58, 59] {
-                        let mut state = [0; TRAIN];
-                        state[0] = accepted;
-                        (state[1], state[2]) = (gross as u32, (gross >> 32) as u32);
-                        (state[3], state[4]) = (net as u32, (net >> 32) as u32);
-                        state[5] = held;
-                        state[6 + place] = SOUND[0];
-                        states.push(state);
-                    }
-                }
-            }
-        }
-    }
-    states
-}
-
-pub fn train_enter(times: u64) -> Tally {
-    let mut tally = Tally::new("train_enter");
-    let mut random = Random::new(7);
-    let given = low_tables(&mut random);
-    let empty = state_of(&Train::default());
-    for misfit in given.misfits() {
-        compare_enter(&mut tally, &empty, &misfit, &SOUND, FIGURES);
-    }
-    for length in wrong_lengths(FIELDS) {
-        compare_enter(&mut tally, &empty, &given, &vec![1; length], FIGURES);
-    }
-    for length in wrong_lengths(FIGURES) {
-        compare_enter(&mut tally, &empty, &given, &SOUND, length);
-    }
-    for length in wrong_lengths(TRAIN) {
-        compare_enter(&mut tally, &vec![0; length], &given, &SOUND, FIGURES);
-    }
-    let mut refused = [SOUND; 3];
-    (refused[1][1], refused[2][0]) = (77, 0);
-    for state in trains_at_limits() {
-        for car in refused {
-            compare_enter(&mut tally, &state, &given, &car, FIGURES);
-        }
-    }
-    for _ in 0..times / 70 {
-        let mut train = empty.clone();
-        for _ in 0..70 {
-            let given = draw_tables(&mut random);
-            let mut car = draw(&mut random, &given);
-            if random.one_in(9) {
-                car[0] = train[6 + random.below(60)];
-            }
-            train = compare_enter(&mut tally, &train, &given, &car, FIGURES);
-        }
-    }
-    tally
 }

@@ -1,5 +1,5 @@
 //! One line read and one line written: every byte of each letter's line replaced by every other,
-//! every cut, every room, then damage by lot.
+//! every cut, a byte more at every place, every room, then damage by lot.
 
 use outside::random::Random;
 use outside::{BAD_LENGTH, BAD_LETTER, FIELDS};
@@ -7,6 +7,9 @@ use reference::operations;
 
 use crate::figures::ENDS;
 use crate::tally::{Tally, LENT};
+
+/// The letters of a sheet's lines, then those of an answer's.
+const LETTERS: [u8; 9] = *b"TRCEAXSGZ";
 
 /// A byte that no answer writes.
 const LENT_BYTE: u8 = 0xa5;
@@ -39,16 +42,18 @@ fn line(letter: u8, number: impl FnMut(usize) -> u32) -> Vec<u8> {
 
 pub fn read_line(times: u64) -> Tally {
     let mut tally = Tally::new("read_line");
-    let lines: Vec<Vec<u8>> = b"TRCEAXSZ"
-        .iter()
-        .map(|&letter| line(letter, |place| 10_u32.pow(place as u32 % 8)))
-        .collect();
+    let lines = LETTERS.map(|letter| line(letter, |place| 10_u32.pow(place as u32 % 8)));
     for length in [0, 1, FIELDS - 1, FIELDS + 1, 2 * FIELDS] {
         compare_read(&mut tally, &lines[2], length);
     }
     for line in &lines {
         for end in 0..=line.len() {
             compare_read(&mut tally, &line[..end], FIELDS);
+            for byte in *b" 0\nG" {
+                let mut longer = line.clone();
+                longer.insert(end, byte);
+                compare_read(&mut tally, &longer, FIELDS);
+            }
         }
         for place in 0..line.len() {
             for byte in 0..=u8::MAX {
@@ -60,7 +65,7 @@ pub fn read_line(times: u64) -> Tally {
     }
     let mut random = Random::new(2);
     for _ in 0..times {
-        let letter = random.pick(b"TRCETRCEAXSZ");
+        let letter = random.pick(b"TRCETRCEAXSGZ");
         let highest = random.pick(&[0, 9, 9_999, 99_999_999]);
         let mut text = line(letter, |_| random.between(0, highest));
         for _ in 0..random.below(4) {
@@ -73,7 +78,7 @@ pub fn read_line(times: u64) -> Tally {
 
 /// Replaces, takes out or puts in a byte, or puts bytes behind.
 fn damage(random: &mut Random, text: &mut Vec<u8>) {
-    let byte = random.pick(b" 0123456789\n\n\rTRCEAXSZ-+.\0\xff");
+    let byte = random.pick(b" 0123456789\n\n\rTRCEAXSGZ-+.\0\xff");
     let place = random.below(text.len() + 1);
     match random.below(4) {
         0 if place < text.len() => text[place] = byte,
@@ -118,7 +123,7 @@ pub fn write_line(times: u64) -> Tally {
     for letter in 0..=u8::MAX {
         compare_write(&mut tally, letter, &[1; FIELDS], 200);
     }
-    for letter in *b"TRCEAXSZ" {
+    for letter in LETTERS {
         for room in 0..=130 {
             compare_write(&mut tally, letter, &[99_999_999; FIELDS], room);
         }
@@ -135,8 +140,8 @@ pub fn write_line(times: u64) -> Tally {
     for _ in 0..times {
         let highest = random.pick(&[9, 99_999_999, 99_999_999, 100_000_003]);
         let numbers = [(); FIELDS].map(|()| random.between(0, highest));
-        let room = random.pick(&[10, 11, 19, 20, 28, 29, 55, 56, 127, 128, 200]);
-        compare_write(&mut tally, random.pick(b"TRCEAXSZ"), &numbers, room);
+        let room = random.pick(&[10, 11, 19, 20, 28, 29, 37, 38, 55, 56, 127, 128, 200]);
+        compare_write(&mut tally, random.pick(&LETTERS), &numbers, room);
     }
     tally
 }

@@ -7,6 +7,7 @@ mod figures;
 mod lines;
 mod tables;
 mod tally;
+mod trains;
 
 use std::process::ExitCode;
 
@@ -39,8 +40,8 @@ fn main() -> ExitCode {
         figures::oil_share().print(),
         figures::oil_share_any_grade().print(),
         cars::work_out(times).print(),
-        cars::train_empty().print(),
-        cars::train_enter(times).print(),
+        trains::train_empty().print(),
+        trains::train_enter(times).print(),
     ];
     println!("{} inputs answered alike, numbers and all that is lent", inputs.iter().sum::<u64>());
     ExitCode::SUCCESS

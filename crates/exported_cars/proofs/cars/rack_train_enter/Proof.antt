@@ -1,6 +1,6 @@
 -- `exported_parts::rack_train_enter` meets its contract: the train, the tables and the car that were copied are those that were lent.
 use Prim.Native.Nat.{ℕ, _<_}
-use mathlib.Core.Path.{_≡_, sym, ap, _∙_}
+use mathlib.Core.Path.{_≡_, refl, sym, ap, _∙_}
 use mathlib.Core.List.{List}
 use native.Mathlib.Omega.{arith}
 use lib.ListN.{getD}
@@ -15,7 +15,7 @@ use Rattle.exported_parts.specs.Handed.{figuresLeft}
 use Rattle.exported_cars.specs.Layout.{half, trainNumbers}
 use Rattle.exported_parts.proofs.Handed.{handed, handed-as, right-sized, wrong-sized}
 use Rattle.exported_cars.proofs.Lengths.{CarRight, car-right, tables-copied}
-use Rattle.exported_cars.proofs.Trains.{train-handed, train-kept, train-wrong, train-sized}
+use Rattle.exported_cars.proofs.TrainSlice.{train-handed, train-kept, entered-four, train-wrong, train-sized}
 use Rattle.exported_cars.proofs.cars.rack_train_enter.Statement.{statement}
 use Rattle.exported_cars.proofs.cars.rack_train_enter.Tie as tie
 
@@ -86,7 +86,7 @@ returns-2 c =
     let n : (i : ℕ) → getD (now (start k .args .train)) i 0 < half = λ i. omega (arith, k .before .before .before .before .before .before .before .before .before .before .slice-known .given i) in
     let r = train-sized _ _ _ _ _ _ _ (eq-eqb _ _ (k .before .before .before .if1 .left)) (sym (k .before .car-fits .ensures) ∙ k .if2 .taken) in (
       handed-as (h .hand-over .ensures) (e .enter .ensures .0 ∙ same enterAnswer ts t car ∙ right-sized _ r),
-      train-handed (k .before .before .before .if1 .left) (n 1) (n 3) r (w .write-train .ensures ∙ ap trainNumbers (e .enter .ensures .1 ∙ same enterTrain ts t car)),
+      train-handed (k .before .before .before .if1 .left) n (entered-four _ _ _ refl) r (w .write-train .ensures ∙ ap trainNumbers (e .enter .ensures .1 ∙ same enterTrain ts t car)),
     )
 
 same-length-3 : tie.Need-same-length-3

@@ -40,6 +40,10 @@ returns-9 : tie.Need-returns-9
 unfolding letterNamed
 returns-9 c = search tests
 
+returns-10 : tie.Need-returns-10
+unfolding letterNamed
+returns-10 c = search tests
+
 pub letter-named-spec : {M : Type 1} → statement M
 letter-named-spec =
     tie.close
@@ -52,4 +56,5 @@ letter-named-spec =
     returns-6
     returns-7
     returns-8
-    returns-9)
+    returns-9
+    returns-10)

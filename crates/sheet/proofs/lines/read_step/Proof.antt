@@ -25,7 +25,7 @@ use Rattle.sheet.proofs.lines.read_step.Tie as tie
 
 -- the letters of an answer, by their places in the enum: none of them is found
 abbrev answers : List ℕ
-answers = 4 ∷ 5 ∷ 6 ∷ 7 ∷ []
+answers = 4 ∷ 5 ∷ 6 ∷ 7 ∷ 8 ∷ []
 
 none-found : (b : ℕ) (due : Due) (l : Letter) → letterOf b due ≡ Is l → OneOf answers (tagOf the-type l) → ⊥
 none-found b due l =

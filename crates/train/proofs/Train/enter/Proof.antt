@@ -1,11 +1,14 @@
--- `Train::enter` meets its contract: the tables' refusals first, then `enter_on`; with it distance, filling order and the book.
+-- `Train::enter` meets its contract: the tables' refusals first, 9 of a train that is not sound, then `enter_on`; with it distance, filling order and the book.
 use mathlib.Core.Path.{_≡_, sym, _∙_}
 use mathlib.Core.List.{List}
+use lib.ListN.{length}
 use borrow.Author.Needs.{needs}
 use denote.Ref.{now}
+use Rattle.base.specs.Limits.{mostCars}
 use Rattle.base.specs.Answer.{Answer, refusal}
 use Rattle.table.specs.Table.{Table}
 use Rattle.table.specs.Layout.{tablesOf}
+use Rattle.table.specs.Inner.{Good}
 use Rattle.table.proofs.Arrays.{good-tables}
 use Rattle.car.specs.declared.Car.{Car}
 use Rattle.car.specs.Car.{measured, carTold}
@@ -16,9 +19,10 @@ use Rattle.train.specs.Demand3.{Close, InOrder, Continues, entered}
 use Rattle.train.proofs.Taken.{close}
 use Rattle.train.proofs.Order.{in-order}
 use Rattle.train.specs.Examples.{EnterOrder}
+use Rattle.train.specs.Inner.{lentTrain}
 use Rattle.train.proofs.Book.{continues}
 use Rattle.train.proofs.Examples.{enter-order}
-use Rattle.train.proofs.Entering.{tables-away}
+use Rattle.train.proofs.Entering.{not-sound, tables-away, unsound-away}
 use Rattle.train.proofs.Train.enter.Statement.{statement}
 use Rattle.train.proofs.Train.enter.Tie as tie
 
@@ -31,6 +35,13 @@ whole : (ts : List Table) (t : Train) (c : Car) (a : Answer) (next : Train) → 
 whole ts t c a next (p, q) =
     (p, q, rw p (close ts (measured c) (enterAnswer ts t c) (entered t c)), rw p (in-order ts (measured c) (enterAnswer ts t c) (entered t c)), rw (p, q) (continues t (book.car ts c)), enter-order)
 
+sixty : (s : tie.Start) → length (s .args .self .numbers) ≡ mostCars
+sixty s = search needs
+
+-- past 7 and 8 the tables are good
+good : (c : tie.Else1) → let a = c .before .before .args in Good (a .d) (now (a .levels)) (now (a .capacities))
+good c = good-tables (sym (c .before .check-tables .ensures) ∙ c .if1 .left)
+
 check-tables-requires : tie.Need-check-tables-requires
 check-tables-requires c κs = search needs
 
@@ -41,14 +52,40 @@ returns c =
     whole (all s) (s .args .self) (s .args .car) (refusal (c .before .check-tables .result)) (s .args .self)
     (tables-away (all s) (s .args .self) (s .args .car) (c .before .check-tables .ensures) (c .if1 .taken))
 
-enter-on-requires : tie.Need-enter-on-requires
-enter-on-requires c κs = good-tables (sym (c .before .check-tables .ensures) ∙ c .if1 .left)
+is-unsound-requires : tie.Need-is-unsound-requires
+is-unsound-requires c κs = search needs
 
 returns-2 : tie.Need-returns-2
 unfolding all
 returns-2 c =
-    let s = c .before .before .before in
-    whole (all s) (s .args .self) (s .args .car) (carTold (c .enter-on .result .answer)) (c .enter-on .result .train) (c .enter-on .ensures)
+    let u = c .before in
+    let l = u .before in
+    let s = l .before .before in
+    whole (all s) (s .args .self) (s .args .car) (refusal 9) (s .args .self)
+    (unsound-away (all s) (s .args .self) (s .args .car) (good l .accepted) (sym (u .is-unsound .ensures) ∙ c .if2 .taken))
+
+enter-on-requires : tie.Need-enter-on-requires
+enter-on-requires c κs =
+    let p = c .before .before .before in
+    let u = p .before in
+    let l = u .before in
+    let s = l .before .before in
+    (sixty s, not-sound (s .args .self) (sym (u .is-unsound .ensures) ∙ p .if2 .left), good l)
+
+returns-3 : tie.Need-returns-3
+unfolding all
+returns-3 c =
+    let e = c .before .before in
+    let s = e .before .before .before .before .before .before .before .before in
+    whole (all s) (s .args .self) (s .args .car) (carTold (e .enter-on .result .answer)) (lentTrain (e .enter-on .result .tally) (e .enter-on .last .1 .0)) (e .enter-on .ensures)
 
 pub enter-spec : {M : Type 1} → statement M
-enter-spec = tie.close (tie.spec check-tables-requires returns enter-on-requires returns-2)
+enter-spec =
+    tie.close
+    (tie.spec
+    check-tables-requires
+    returns
+    is-unsound-requires
+    returns-2
+    enter-on-requires
+    returns-3)

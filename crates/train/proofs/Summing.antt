@@ -1,0 +1,203 @@
+-- Laws of sums: one car more, the grades together, and the tests that the code makes of them.
+use Prim.Native.Nat.{ℕ, zero, suc, _+_, _-_, _≤_, _<_}
+use mathlib.Core.Path.{_≡_, refl, ap, sym, _∙_}
+use mathlib.Core.Logic.{⊎-elim}
+use mathlib.Core.Bool.{Bool, true, false, cond, _&&_, true≢false}
+use mathlib.Core.List.{List, [], _∷_, _++_, append-nil}
+use native.Mathlib.Omega.{arith}
+use lib.Dec.{eqb}
+use lib.ListN.{length, getD, set, length-append}
+use borrow.Author.Tests.{eq-eqb, ne-eqb, eqb-true}
+use Rattle.base.specs.Limits.{gradeCount}
+use Rattle.base.specs.Lists.{Each}
+use Rattle.base.specs.Total.{total}
+use Rattle.base.proofs.Choice.{same}
+use Rattle.base.proofs.Lists.{selected-append}
+use Rattle.base.proofs.Total.{total-append, total-same, total-selected, part-most}
+use Rattle.car.specs.Measured.{gross, net}
+use Rattle.train.specs.declared.Totals.{Totals}
+use Rattle.train.specs.declared.Sums.{Sums}
+use Rattle.train.specs.Sums.{Shown, shownMass, ofGrade, totalsOf, sumsOf, noTotals, noSums, totalIn, gradeTotals, together, sameTotals, withCar, gradesWith, sumsWith}
+use Rattle.train.specs.Inner.{Low, Sound}
+
+abbrev totalsFrom : ℕ → ℕ → ℕ → Totals
+totalsFrom n g k = record { accepted = n; gross = g; net = k }
+
+same-parts : {a b c x y z : ℕ} → a ≡ x → b ≡ y → c ≡ z → totalsFrom a b c ≡ totalsFrom x y z
+same-parts p q r = rw (p, q, r)
+
+-- One car more behind a list.
+
+one-more : (f : Shown → ℕ) (ss : List Shown) (s : Shown) → total f (ss ++ (s ∷ [])) ≡ total f ss + f s
+unfolding total
+one-more f ss s = omega (arith, total-append f ss (s ∷ []))
+
+totals-snoc : (ss : List Shown) (s : Shown) → totalsOf (ss ++ (s ∷ [])) ≡ withCar (totalsOf ss) s
+unfolding totalsOf
+totals-snoc ss s = same-parts (length-append ss (s ∷ [])) (one-more (shownMass gross) ss s) (one-more (shownMass net) ss s)
+
+grade-snoc : (g : ℕ) (ss : List Shown) (s : Shown)
+    → totalsOf (ofGrade g (ss ++ (s ∷ []))) ≡ cond (eqb (s .grade) g) (withCar (totalsOf (ofGrade g ss)) s) (totalsOf (ofGrade g ss))
+grade-snoc g ss s = ap totalsOf (selected-append (λ x. eqb (x .grade) g) ss (s ∷ [])) ∙ by-test (eqb (s .grade) g)
+  where
+    by-test : (t : Bool) → totalsOf (ofGrade g ss ++ cond t (s ∷ []) []) ≡ cond t (withCar (totalsOf (ofGrade g ss)) s) (totalsOf (ofGrade g ss))
+    by-test true = totals-snoc (ofGrade g ss) s
+    by-test false = rw append-nil refl
+
+pub sums-snoc : (ss : List Shown) (s : Shown) → sumsOf (ss ++ (s ∷ [])) ≡ sumsWith (sumsOf ss) s
+unfolding sumsOf
+sums-snoc ss s = rw (totals-snoc ss s, grade-snoc 1 ss s, grade-snoc 2 ss s, grade-snoc 3 ss s, grade-snoc 4 ss s)
+
+pub all-of : (ss : List Shown) → sumsOf ss .all ≡ totalsOf ss
+unfolding sumsOf
+all-of ss = refl
+
+pub four-grades : (ss : List Shown) → length (sumsOf ss .grades) ≡ gradeCount
+unfolding sumsOf
+four-grades ss = refl
+
+pub sums-none : noSums ≡ sumsOf []
+unfolding sumsOf totalsOf total
+sums-none = refl
+
+-- Cars of grades 1 to 4.
+
+abbrev pub Known : Shown → Type 0
+Known s = (1 ≤ s .grade) × (s .grade ≤ gradeCount)
+
+-- each is of one grade
+one-of-four : (g x : ℕ) → 1 ≤ g → g ≤ 4 → cond (eqb g 1) x 0 + (cond (eqb g 2) x 0 + (cond (eqb g 3) x 0 + cond (eqb g 4) x 0)) ≡ x
+one-of-four zero x h k = absurd (omega arith)
+one-of-four (suc zero) x h k = omega arith
+one-of-four (suc (suc zero)) x h k = omega arith
+one-of-four (suc (suc (suc zero))) x h k = omega arith
+one-of-four (suc (suc (suc (suc zero)))) x h k = omega arith
+one-of-four (suc (suc (suc (suc (suc g))))) x h k = absurd (omega arith)
+
+by-grades : (f : Shown → ℕ) (ss : List Shown) → Each Known ss
+    → total f ss ≡ total f (ofGrade 1 ss) + (total f (ofGrade 2 ss) + (total f (ofGrade 3 ss) + (total f (ofGrade 4 ss) + 0)))
+unfolding total
+by-grades f [] h = refl
+by-grades f (s ∷ ss) (h, hs) =
+    let part : (g : ℕ) → total f (ofGrade g (s ∷ ss)) ≡ cond (eqb (s .grade) g) (f s) 0 + total f (ofGrade g ss) = λ g. total-selected f (λ x. eqb (x .grade) g) s ss in
+    omega (arith, part 1, part 2, part 3, part 4, one-of-four (s .grade) (f s) (h .0) (h .1), by-grades f ss hs)
+
+-- the count is the sum of ones
+counted : (ss : List Shown) → length ss ≡ total (λ _. 1) ss
+counted ss = omega (arith, total-same 1 ss)
+
+pub sums-split : (ss : List Shown) → Each Known ss → sumsOf ss .all ≡ together (sumsOf ss .grades)
+unfolding sumsOf totalsOf total
+sums-split ss h =
+    same-parts
+    (omega (arith, counted ss, counted (ofGrade 1 ss), counted (ofGrade 2 ss), counted (ofGrade 3 ss), counted (ofGrade 4 ss), by-grades (λ _. 1) ss h))
+    (by-grades (shownMass gross) ss h)
+    (by-grades (shownMass net) ss h)
+
+-- no car is of another grade
+none-of : (g : ℕ) → ((n : ℕ) → 1 ≤ n → n ≤ gradeCount → n ≡ g → ⊥) → (ss : List Shown) → Each Known ss → ofGrade g ss ≡ []
+none-of g other [] h = refl
+none-of g other (s ∷ ss) (h, hs) =
+    ap (λ (t : Bool). cond t (s ∷ ofGrade g ss) (ofGrade g ss)) (ne-eqb (s .grade) g (other (s .grade) (h .0) (h .1))) ∙ none-of g other ss hs
+
+no-totals : totalsOf [] ≡ noTotals
+unfolding totalsOf total
+no-totals = refl
+
+pub grade-totals : (ss : List Shown) → Each Known ss → (g : ℕ) → gradeTotals g (sumsOf ss) ≡ totalsOf (ofGrade g ss)
+unfolding sumsOf
+grade-totals ss h zero = sym (ap totalsOf (none-of 0 (λ n a b e. omega arith) ss h) ∙ no-totals)
+grade-totals ss h (suc zero) = refl
+grade-totals ss h (suc (suc zero)) = refl
+grade-totals ss h (suc (suc (suc zero))) = refl
+grade-totals ss h (suc (suc (suc (suc zero)))) = refl
+grade-totals ss h (suc (suc (suc (suc (suc g))))) = sym (ap totalsOf (none-of (suc (suc (suc (suc (suc g))))) (λ n a b e. omega arith) ss h) ∙ no-totals)
+
+-- Sums that a train keeps.
+
+-- the totals of a grade are no more than those of all
+pub grade-low : {s : Sums} → Sound s → (i : ℕ) → i < length (s .grades) → Low (getD (s .grades) i noTotals)
+grade-low {s} h i k =
+    let a : s .all .accepted ≡ total (λ t. t .accepted) (s .grades) = ap (λ (t : Totals). t .accepted) (h .split) in
+    let g : s .all .gross ≡ total (totalIn gross) (s .grades) = ap (λ (t : Totals). t .gross) (h .split) in
+    let n : s .all .net ≡ total (totalIn net) (s .grades) = ap (λ (t : Totals). t .net) (h .split) in
+    record {
+      few = omega (arith, h .low .few, part-most (λ t. t .accepted) (s .grades) i noTotals k);
+      gross-low = omega (arith, h .low .gross-low, part-most (totalIn gross) (s .grades) i noTotals k);
+      net-low = omega (arith, h .low .net-low, part-most (totalIn net) (s .grades) i noTotals k);
+    }
+
+each-place : {A : Type 0} (P : A → Type 0) (l : List A) (d : A) → ((i : ℕ) → i < length l → P (getD l i d)) → Each P l
+each-place P [] d f = tt
+each-place P (a ∷ l) d f = (f zero (omega arith), each-place P l d (λ i h. f (suc i) (omega arith)))
+
+pub grades-low : {s : Sums} → Sound s → Each Low (s .grades)
+grades-low {s} h = each-place Low (s .grades) noTotals (grade-low h)
+
+-- the car stands in the place of its grade
+later-grades : (g : ℕ) (s : Shown) (ts : List Totals) → s .grade < g → gradesWith g s ts ≡ ts
+later-grades g s [] h = refl
+later-grades g s (t ∷ ts) h =
+    rw (ne-eqb (s .grade) g (λ e. omega arith)) (ap (λ (l : List Totals). t ∷ l) (later-grades (g + 1) s ts (omega arith)))
+
+pub grade-set : (g i : ℕ) (s : Shown) (ts : List Totals) → s .grade ≡ g + i → i < length ts → set ts i (withCar (getD ts i noTotals) s) ≡ gradesWith g s ts
+grade-set g i s [] e h = absurd (omega arith)
+grade-set g zero s (t ∷ ts) e h =
+    rw (eq-eqb (s .grade) g (omega arith)) (ap (λ (l : List Totals). withCar t s ∷ l) (sym (later-grades (g + 1) s ts (omega arith))))
+grade-set g (suc i) s (t ∷ ts) e h =
+    rw (ne-eqb (s .grade) g (λ q. omega arith)) (ap (λ (l : List Totals). t ∷ l) (grade-set (g + 1) i s ts (omega arith) (omega arith)))
+
+-- Equality as a test.
+
+both-hold : (a b : Bool) → (a && b) ≡ true → (a ≡ true) × (b ≡ true)
+both-hold true b e = (refl, e)
+both-hold false b e = absurd (true≢false (sym e))
+
+pub same-totals : {a b : Totals} → sameTotals a b ≡ true → a ≡ b
+same-totals {a} {b} e =
+    let p = both-hold (eqb (a .accepted) (b .accepted) && eqb (a .gross) (b .gross)) (eqb (a .net) (b .net)) e in
+    let q = both-hold (eqb (a .accepted) (b .accepted)) (eqb (a .gross) (b .gross)) (p .0) in
+    same-parts (eqb-true (a .accepted) (b .accepted) (q .0)) (eqb-true (a .gross) (b .gross) (q .1)) (eqb-true (a .net) (b .net) (p .1))
+
+pub totals-same : {a b : Totals} → a ≡ b → sameTotals a b ≡ true
+totals-same {a} {b} e =
+    let p = eq-eqb (a .accepted) (b .accepted) (ap (λ (t : Totals). t .accepted) e) in
+    let q = eq-eqb (a .gross) (b .gross) (ap (λ (t : Totals). t .gross) e) in
+    let r = eq-eqb (a .net) (b .net) (ap (λ (t : Totals). t .net) e) in
+    rw (p, q, r)
+
+-- four parts taken from a sum one after another
+module _ (s a b c d : ℕ) where
+  pub first-more : s < a → false ≡ eqb s (a + (b + (c + (d + 0))))
+  first-more h = sym (ne-eqb s (a + (b + (c + (d + 0)))) (λ e. omega arith))
+
+  pub second-more : a ≤ s → s - a < b → false ≡ eqb s (a + (b + (c + (d + 0))))
+  second-more g h = sym (ne-eqb s (a + (b + (c + (d + 0)))) (λ e. omega arith))
+
+  pub third-more : a ≤ s → b ≤ s - a → s - a - b < c → false ≡ eqb s (a + (b + (c + (d + 0))))
+  third-more f g h = sym (ne-eqb s (a + (b + (c + (d + 0)))) (λ e. omega arith))
+
+  pub rest-last : a ≤ s → b ≤ s - a → c ≤ s - a - b → eqb (s - a - b - c) d ≡ eqb s (a + (b + (c + (d + 0))))
+  rest-last f g h =
+      ⊎-elim
+      (λ (e : s - a - b - c ≡ d). eq-eqb (s - a - b - c) d e ∙ sym (eq-eqb s (a + (b + (c + (d + 0)))) (omega arith)))
+      (λ (n : s - a - b - c ≡ d → ⊥). ne-eqb (s - a - b - c) d n ∙ sym (ne-eqb s (a + (b + (c + (d + 0)))) (λ e. n (omega arith))))
+      (same (s - a - b - c) d)
+
+-- the sum over the four grades, as the code forms it
+abbrev pub four : (Totals → ℕ) → List Totals → ℕ
+four f ts = f (getD ts 0 noTotals) + (f (getD ts 1 noTotals) + (f (getD ts 2 noTotals) + (f (getD ts 3 noTotals) + 0)))
+
+total-four : (f : Totals → ℕ) (ts : List Totals) → length ts ≡ gradeCount → total f ts ≡ four f ts
+unfolding total
+total-four f [] e = absurd (omega arith)
+total-four f (a ∷ []) e = absurd (omega arith)
+total-four f (a ∷ b ∷ []) e = absurd (omega arith)
+total-four f (a ∷ b ∷ c ∷ []) e = absurd (omega arith)
+total-four f (a ∷ b ∷ c ∷ d ∷ []) e = refl
+total-four f (a ∷ b ∷ c ∷ d ∷ x ∷ ts) e = absurd (omega arith)
+
+pub added-up : (s : Sums) → length (s .grades) ≡ gradeCount
+    → (eqb (s .all .accepted) (four (λ t. t .accepted) (s .grades)) && eqb (s .all .gross) (four (totalIn gross) (s .grades)) && eqb (s .all .net) (four (totalIn net) (s .grades)))
+    ≡ sameTotals (s .all) (together (s .grades))
+added-up s e = rw (total-four (λ t. t .accepted) (s .grades) e, total-four (totalIn gross) (s .grades) e, total-four (totalIn net) (s .grades) e)

@@ -1,0 +1,65 @@
+-- `Sums::with_car` meets its contract: the car is added to all, and in the place of its grade.
+use Prim.Native.Nat.{_-_, _<_}
+use mathlib.Core.Path.{_≡_, ap, ap₂, _∙_}
+use mathlib.Core.List.{List}
+use native.Mathlib.Omega.{arith}
+use lib.ListN.{length, set}
+use Rattle.base.specs.Limits.{gradeCount}
+use Rattle.base.proofs.Lists.{length-under}
+use Rattle.train.specs.declared.Totals.{Totals}
+use Rattle.train.specs.declared.Sums.{Sums}
+use Rattle.train.specs.Inner.{shownAs}
+use Rattle.train.proofs.Summing.{grade-low, grade-set}
+use borrow.Author.Needs.{needs}
+use Rattle.train.proofs.Sums.with_car.Statement.{statement}
+use Rattle.train.proofs.Sums.with_car.Tie as tie
+
+abbrev sumsFrom : Totals → List Totals → Sums
+sumsFrom all grades = record { all = all; grades = grades }
+
+-- t1 is the sums themselves, of which a part is copied
+place-in : (s : tie.Start) → s .args .grade - 1 < length (s .args .t1 .grades)
+place-in s = let h : length (s .args .t1 .grades) ≡ gradeCount = search (needs, length-under) in omega (arith, s .pre .1, s .pre .2)
+
+sub-place : tie.Need-sub-place
+sub-place c = search needs
+
+mul-of-grade : tie.Need-mul-of-grade
+mul-of-grade c = search needs
+
+element-copy-out-of-grade : tie.Need-element-copy-out-of-grade
+element-copy-out-of-grade c = search needs
+
+with-car-requires : tie.Need-with-car-requires
+with-car-requires c κs = search needs
+
+with-car-requires-2 : tie.Need-with-car-requires-2
+with-car-requires-2 c κs = let s = c .before .before .before in grade-low (s .pre .0) (s .args .grade - 1) (place-in s)
+
+mul-t10 : tie.Need-mul-t10
+mul-t10 c = search needs
+
+element-set-from-next : tie.Need-element-set-from-next
+element-set-from-next c = search needs
+
+returns : tie.Need-returns
+returns c =
+    let w = c .before in
+    let s = w .before .before .before in
+    let a = s .args in
+    ap₂ (λ (x : Totals) (l : List Totals). sumsFrom x l) (w .with-car .ensures)
+    (ap (set (a .t1 .grades) (a .grade - 1)) (c .with-car2 .ensures)
+    ∙ grade-set 1 (a .grade - 1) (shownAs (a .grade) (a .gross) (a .net)) (a .t1 .grades) (omega (arith, s .pre .1)) (place-in s))
+
+pub with-car-spec : {M : Type 1} → statement M
+with-car-spec =
+    tie.close
+    (tie.spec
+    sub-place
+    mul-of-grade
+    element-copy-out-of-grade
+    with-car-requires
+    with-car-requires-2
+    mul-t10
+    element-set-from-next
+    returns)

@@ -1,0 +1,93 @@
+// Accepted cars and their total masses: with one car more, and whether the totals of all cars are the sums of the grades'.
+ghost use mathlib.Core.Path.{_≡_};
+ghost use Prim.Native.Nat.{_+_, _≤_};
+ghost use lib.Dec.{eqb};
+ghost use Rattle.base.specs.Limits.{gradeCount};
+ghost use Rattle.train.specs.Sums.{together, sameTotals, withCar, sumsWith};
+ghost use Rattle.train.specs.Inner.{Low, Sound, shownAs, sumsAfter, Graded};
+use crate::Sums;
+use crate::Totals;
+use car::CarAnswer;
+
+// Whether four numbers make a sum. They are taken from it one after another, so that none of any size overflows.
+fn is_sum(sum: u64, a: u64, b: u64, c: u64, d: u64) -> bool
+    ensures { λ r. ⌜ r ≡ eqb sum (a + (b + (c + (d + 0)))) ⌝ }
+{
+    if sum < a {
+        return false;
+    }
+    let without_a = sum - a;
+    if without_a < b {
+        return false;
+    }
+    let without_b = without_a - b;
+    if without_b < c {
+        return false;
+    }
+    without_b - c == d
+}
+
+impl Totals {
+    // With one car more.
+    fn with_car(self, grade: u32, gross: u32, net: u32) -> Totals
+        requires { ⌜ Low self ⌝ }
+        ensures { λ r. ⌜ r ≡ withCar self (shownAs grade gross net) ⌝ }
+    {
+        Totals {
+            accepted: self.accepted + 1,
+            gross: self.gross + gross as u64,
+            net: self.net + net as u64,
+        }
+    }
+}
+
+impl Sums {
+    // With one car more, of a grade from 1 on.
+    fn with_car(self, grade: u32, gross: u32, net: u32) -> Sums
+        requires { ⌜ Sound self × (1 ≤ grade) × (grade ≤ gradeCount) ⌝ }
+        ensures { λ r. ⌜ r ≡ sumsWith self (shownAs grade gross net) ⌝ }
+    {
+        let all = self.all;
+        let place = grade as usize - 1;
+        let of_grade = self.grades[place];
+        let mut next = self;
+        next.all = all.with_car(grade, gross, net);
+        next.grades[place] = of_grade.with_car(grade, gross, net);
+        next
+    }
+
+    // With a car's answer: its masses where it is accepted.
+    pub(crate) fn with_answer(self, grade: u32, answer: CarAnswer) -> Sums
+        requires { ⌜ Sound self × Graded grade answer ⌝ }
+        ensures { λ r. ⌜ r ≡ sumsAfter self grade answer ⌝ }
+    {
+        match answer {
+            CarAnswer::Accepted(f) => self.with_car(grade, f.gross, f.net),
+            CarAnswer::Refused(_) => self,
+        }
+    }
+
+    // Whether the totals of all cars are the sums of the grades'.
+    pub(crate) fn adds_up(self) -> bool
+        ensures { λ r. ⌜ r ≡ sameTotals (self .all) (together (self .grades)) ⌝ }
+    {
+        let all = self.all;
+        let a = self.grades[0];
+        let b = self.grades[1];
+        let c = self.grades[2];
+        let d = self.grades[3];
+        if !is_sum(
+            all.accepted as u64,
+            a.accepted as u64,
+            b.accepted as u64,
+            c.accepted as u64,
+            d.accepted as u64,
+        ) {
+            return false;
+        }
+        if !is_sum(all.gross, a.gross, b.gross, c.gross, d.gross) {
+            return false;
+        }
+        is_sum(all.net, a.net, b.net, c.net, d.net)
+    }
+}
