@@ -15,10 +15,10 @@ use Rattle.base.proofs.Buffer.{put-put, set-put, length-put}
 use Rattle.table.specs.Table.{Table}
 use Rattle.car.specs.declared.Car.{Car}
 use Rattle.car.specs.Car.{carTests}
-use Rattle.train.specs.declared.Totals.{Totals}
-use Rattle.train.specs.declared.Sums.{Sums}
+use Rattle.summing.specs.declared.Totals.{Totals}
+use Rattle.summing.specs.declared.Sums.{Sums}
 use Rattle.train.specs.declared.Train.{Train}
-use Rattle.train.specs.Sums.{Shown, noTotals, gradesWith}
+use Rattle.summing.specs.Sums.{Shown, noTotals, gradesWith}
 use Rattle.train.specs.Train.{admissionTests, carShown, afterBy, enterTrain}
 use Rattle.exported_parts.specs.Handed.{lengthIs}
 use Rattle.exported_cars.specs.Layout.{half, joined, totalsPlaces, totalsAt, totalsNumbers, sumsPlaces, trainPlaces, trainOf, gradesNumbers, sumsNumbers, trainNumbers, carSized, trainSized, TrainHanded}

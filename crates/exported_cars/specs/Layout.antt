@@ -10,8 +10,8 @@ use Rattle.reading.specs.Letter.{mostFields}
 use Rattle.table.specs.declared.Directory.{Directory}
 use Rattle.table.specs.Table.{Table, tablesTests}
 use Rattle.table.specs.Layout.{places, tablesOf}
-use Rattle.train.specs.declared.Totals.{Totals}
-use Rattle.train.specs.declared.Sums.{Sums}
+use Rattle.summing.specs.declared.Totals.{Totals}
+use Rattle.summing.specs.declared.Sums.{Sums}
 use Rattle.train.specs.declared.Train.{Train}
 use Rattle.exported_parts.specs.Handed.{lengthIs}
 

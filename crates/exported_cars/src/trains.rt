@@ -16,8 +16,8 @@ ghost use Rattle.exported_cars.specs.Layout.{
 };
 use base::GRADES;
 use base::MOST_CARS;
-use train::Sums;
-use train::Totals;
+use summing::Sums;
+use summing::Totals;
 use train::Train;
 
 // Totals: accepted cars, gross and net in kg, each as a low and a high half of 32 bits.

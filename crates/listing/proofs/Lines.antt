@@ -27,12 +27,12 @@ use Rattle.car.specs.Measured.{gross, net, v0, v15From, mass, measuredTests, si
 use Rattle.car.specs.Car.{measured, carTests, figuresOf}
 use Rattle.car.proofs.Accepted.{Passed, passed-car, known, low, fields, shows}
 use Rattle.car.proofs.Masses.{mass-most}
-use Rattle.train.specs.declared.Totals.{Totals}
-use Rattle.train.specs.declared.Sums.{Sums}
+use Rattle.summing.specs.declared.Totals.{Totals}
+use Rattle.summing.specs.declared.Sums.{Sums}
 use Rattle.train.specs.declared.Train.{Train}
 use Rattle.train.specs.Train.{trainTests, admissionTests, enterTests, enterAnswer}
-use Rattle.train.specs.Inner.{Low, Sound}
-use Rattle.train.proofs.Summing.{grades-low}
+use Rattle.summing.specs.Inner.{Low, Sound}
+use Rattle.summing.proofs.Adding.{grades-low}
 use Rattle.grammar.specs.Text.{textOf}
 use Rattle.listing.specs.Listing.{answerLine, totalsLine, gradeLine, gradeLines, totalsLines, sheetRefusedLine}
 use Rattle.listing.specs.Reconciled.{Small}

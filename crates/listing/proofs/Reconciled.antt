@@ -17,10 +17,10 @@ use Rattle.table.specs.Table.{Table, tablesVerdict}
 use Rattle.table.specs.Layout.{tablesOf}
 use Rattle.car.specs.declared.Measured.{Measured}
 use Rattle.car.specs.Car.{carOf, measured}
-use Rattle.train.specs.declared.Totals.{Totals}
-use Rattle.train.specs.declared.Sums.{Sums}
+use Rattle.summing.specs.declared.Totals.{Totals}
+use Rattle.summing.specs.declared.Sums.{Sums}
 use Rattle.train.specs.declared.Train.{Train}
-use Rattle.train.specs.Sums.{Shown, ofGrade, totalsOf, sumsOf, gradeTotals, together}
+use Rattle.summing.specs.Sums.{Shown, ofGrade, totalsOf, sumsOf, gradeTotals, together}
 use Rattle.train.specs.Train.{emptyTrain, enterAnswer}
 use Rattle.train.specs.Book.{Item, car, itemNumber, loadsOfGrade}
 use Rattle.train.specs.Demand3.{answerTo, trainWith, trainFrom, answersFrom, Close, Answered, entered, InOrder}

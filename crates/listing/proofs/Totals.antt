@@ -12,10 +12,10 @@ use Rattle.base.specs.Buffer.{put}
 use Rattle.reading.specs.declared.letter.Line.{Line}
 use Rattle.reading.specs.Letter.{widthOf}
 use Rattle.line.specs.Writing.{lineOf, writable}
-use Rattle.train.specs.declared.Sums.{Sums}
-use Rattle.train.specs.Sums.{noTotals}
-use Rattle.train.specs.Inner.{Low}
-use Rattle.train.proofs.Summing.{grade-low}
+use Rattle.summing.specs.declared.Sums.{Sums}
+use Rattle.summing.specs.Sums.{noTotals}
+use Rattle.summing.specs.Inner.{Low}
+use Rattle.summing.proofs.Adding.{grade-low}
 use Rattle.grammar.specs.Text.{textOf}
 use Rattle.listing.specs.Listing.{totalsLine, gradeLine, gradeLines, totalsLines}
 use Rattle.listing.specs.Inner.{Closing}

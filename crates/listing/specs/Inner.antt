@@ -6,8 +6,8 @@ use lib.ListN.{length}
 use Rattle.base.specs.Limits.{mostCars, gradeCount}
 use Rattle.table.specs.declared.Directory.{Directory}
 use Rattle.table.specs.Inner.{Good}
-use Rattle.train.specs.declared.Sums.{Sums}
-use Rattle.train.specs.Inner.{Sound}
+use Rattle.summing.specs.declared.Sums.{Sums}
+use Rattle.summing.specs.Inner.{Sound}
 use Rattle.sheet.specs.Layout.{carsOf}
 use Rattle.grammar.specs.Grammar.{EachCar}
 use Rattle.grammar.specs.Text.{textOf}

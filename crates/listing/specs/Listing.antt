@@ -12,8 +12,8 @@ use Rattle.reading.specs.declared.letter.Line.{Line}
 use Rattle.reading.specs.Letter.{widthOf}
 use Rattle.table.specs.Table.{Table}
 use Rattle.car.specs.Car.{carOf}
-use Rattle.train.specs.declared.Totals.{Totals}
-use Rattle.train.specs.declared.Sums.{Sums}
+use Rattle.summing.specs.declared.Totals.{Totals}
+use Rattle.summing.specs.declared.Sums.{Sums}
 use Rattle.train.specs.declared.Train.{Train}
 use Rattle.train.specs.Train.{emptyTrain}
 use Rattle.train.specs.Book.{Item, car, itemNumber}

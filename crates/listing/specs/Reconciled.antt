@@ -15,7 +15,7 @@ use Rattle.table.specs.Table.{Table, tablesVerdict}
 use Rattle.car.specs.declared.Measured.{Measured}
 use Rattle.car.specs.Measured.{gross, net}
 use Rattle.car.specs.Car.{measured}
-use Rattle.train.specs.Sums.{Shown, shownMass, ofGrade}
+use Rattle.summing.specs.Sums.{Shown, shownMass, ofGrade}
 use Rattle.train.specs.Train.{emptyTrain}
 use Rattle.train.specs.Book.{Item, car, itemNumber, Load, loads, loadsOfGrade, bookFrom}
 use Rattle.train.specs.Demand3.{Close, answersFrom, shown, Reconciled, InOrder}

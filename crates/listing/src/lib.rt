@@ -11,7 +11,7 @@ ghost use Rattle.base.specs.Limits.{largest, mostCars};
 ghost use Rattle.table.specs.Layout.{tablesOf};
 ghost use Rattle.car.specs.Car.{carOf, carTold};
 ghost use Rattle.train.specs.Train.{emptyTrain};
-ghost use Rattle.train.specs.Inner.{Low};
+ghost use Rattle.summing.specs.Inner.{Low};
 ghost use Rattle.grammar.specs.Text.{textOf};
 ghost use Rattle.grammar.specs.Sheet.{sheetOf};
 ghost use Rattle.grammar.specs.ByGrammar.{ReadByGrammar};
@@ -30,12 +30,12 @@ use reading::Line;
 use reading::MOST_FIELDS;
 use sheet::CAR_NUMBERS;
 use sheet::Outcome;
+use summing::Sums;
+use summing::Totals;
 use table::Directory;
 use table::PLACES;
 use thermal::Density15;
-use train::Sums;
 use train::Tally;
-use train::Totals;
 use train::Train;
 
 // The longest answer, in bytes, and so the least buffer: a line for each of sixty cars, S, and G for each grade.

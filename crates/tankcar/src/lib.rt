@@ -40,9 +40,9 @@ pub use thermal::factor_of;
 pub use car::Car;
 pub use car::CarAnswer;
 pub use car::Figures;
+pub use summing::Sums;
+pub use summing::Totals;
 pub use train::Step;
-pub use train::Sums;
-pub use train::Totals;
 pub use train::Train;
 pub use train::work_out;
 

@@ -29,14 +29,15 @@ use Rattle.car.specs.Car.{numberTests, measured, carTests, figuresOf}
 use Rattle.car.specs.Exact.{distance}
 use Rattle.car.proofs.Accepted.{Passed, passed-car, grade-known}
 use Rattle.car.proofs.Masses.{mass-most, mass-near}
-use Rattle.train.specs.declared.Sums.{Sums}
+use Rattle.summing.specs.declared.Sums.{Sums}
 use Rattle.train.specs.declared.Train.{Train}
-use Rattle.train.specs.Sums.{Shown, shownMass, ofGrade, totalsOf, sumsOf, sumsWith}
+use Rattle.summing.specs.Sums.{Shown, shownMass, ofGrade, totalsOf, sumsOf, sumsWith}
 use Rattle.train.specs.Train.{emptyTrain, heldBy, full, admissionTests, enterTests, enterAnswer, withNumber, withMasses, carShown, afterBy, enterTrain}
 use Rattle.train.specs.Book.{Item, car, Load, exactMass, Entry, alone, loaded, numberIn, loads, loadsOfGrade, bookAdmission, bookOwn, bookVerdict, loadOf, entryBy, bookStep, bookFrom, verdictsFrom}
 use Rattle.train.specs.Demand3.{verdictIn, answerTo, trainWith, trainFrom, answersFrom, shown, Beside, Reconciled, Continues}
-use Rattle.train.specs.Inner.{Sound, Reached}
-use Rattle.train.proofs.Summing.{Known, sums-snoc, sums-none, sums-split, grade-totals, all-of, four-grades}
+use Rattle.summing.specs.Inner.{Sound}
+use Rattle.train.specs.Inner.{Reached}
+use Rattle.summing.proofs.Adding.{Known, sums-snoc, sums-none, sums-split, grade-totals, all-of, four-grades}
 use Rattle.train.proofs.Entering.{sound-not}
 
 -- Accepted items.

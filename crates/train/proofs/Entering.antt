@@ -18,10 +18,11 @@ use Rattle.car.specs.Measured.{gross, net, mass, sixFigures}
 use Rattle.car.specs.Car.{measured, carTests, figuresOf, ownAnswer, carTold}
 use Rattle.car.proofs.Accepted.{passed-car, grade-known}
 use Rattle.train.specs.declared.Train.{Train}
-use Rattle.train.specs.Sums.{together, sameTotals}
-use Rattle.train.specs.Train.{mostInTrain, unsound, full, trainTests, admissionTests, enterTests, enterAnswer, afterBy, enterTrain}
-use Rattle.train.specs.Inner.{placeTests, Sound, withAnswer, Graded}
-use Rattle.train.proofs.Summing.{same-totals, totals-same}
+use Rattle.summing.specs.Sums.{mostInTrain, together, sameTotals}
+use Rattle.train.specs.Train.{unsound, full, trainTests, admissionTests, enterTests, enterAnswer, afterBy, enterTrain}
+use Rattle.summing.specs.Inner.{Sound, Graded}
+use Rattle.train.specs.Inner.{placeTests, withAnswer}
+use Rattle.summing.proofs.Adding.{same-totals, totals-same}
 
 -- A train is sound where 9 does not apply for its limits or sums.
 

@@ -13,9 +13,9 @@ use Rattle.car.specs.declared.Measured.{Measured}
 use Rattle.car.specs.Measured.{Mass, gross, net}
 use Rattle.car.specs.Car.{measured, aloneAnswer}
 use Rattle.car.specs.Exact.{massˣ, distance, Uncut}
-use Rattle.train.specs.declared.Totals.{Totals}
+use Rattle.summing.specs.declared.Totals.{Totals}
 use Rattle.train.specs.declared.Train.{Train}
-use Rattle.train.specs.Sums.{Shown, sumsOf, totalIn, gradeTotals, together}
+use Rattle.summing.specs.Sums.{Shown, sumsOf, totalIn, gradeTotals, together}
 use Rattle.train.specs.Train.{emptyTrain, enterAnswer, enterTrain}
 use Rattle.train.specs.Book.{Item, car, itemMeasured, Load, exactMass, loads, loadsOfGrade, bookFrom, verdictsFrom}
 

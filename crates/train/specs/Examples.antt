@@ -10,10 +10,10 @@ use Rattle.table.specs.Table.{Table}
 use Rattle.car.specs.declared.Car.{Car}
 use Rattle.car.specs.Car.{carOf, measured, aloneAnswer}
 use Rattle.car.specs.Card.{cardTables}
-use Rattle.train.specs.declared.Totals.{Totals}
-use Rattle.train.specs.declared.Sums.{Sums}
+use Rattle.summing.specs.declared.Totals.{Totals}
+use Rattle.summing.specs.declared.Sums.{Sums}
 use Rattle.train.specs.declared.Train.{Train}
-use Rattle.train.specs.Sums.{noTotals}
+use Rattle.summing.specs.Sums.{noTotals}
 use Rattle.train.specs.Train.{emptyTrain, enterAnswer}
 use Rattle.train.specs.Book.{Item, car, Entry, alone, loaded, loadOf, bookFrom, verdictsFrom}
 use Rattle.train.specs.Demand3.{trainFrom, Comparable}

@@ -1,4 +1,3 @@
-pub mod Sums
 pub mod Train
 pub mod Book
 pub mod Demand3

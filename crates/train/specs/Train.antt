@@ -12,7 +12,7 @@ use Rattle.car.specs.declared.Car.{Car}
 use Rattle.car.specs.Measured.{gross, net, mass}
 use Rattle.car.specs.Car.{numberTests, measured, carTests, figuresOf}
 use Rattle.train.specs.declared.Train.{Train}
-use Rattle.train.specs.Sums.{Shown, noSums, together, sameTotals, sumsWith}
+use Rattle.summing.specs.Sums.{Shown, noSums, mostInTrain, together, sameTotals, sumsWith}
 
 -- no accepted cars, no totals, no numbers
 abbrev pub emptyTrain : Train
@@ -21,10 +21,6 @@ emptyTrain = record { sums = noSums; held = 0; numbers = replicate mostCars 0 }
 -- the car numbers that it holds
 abbrev pub heldBy : Train → List ℕ
 heldBy t = take (t .held) (t .numbers)
-
--- the greatest total, in kg
-abbrev pub mostInTrain : ℕ
-mostInTrain = 12_000_000
 
 -- it counts more than sixty accepted cars, has a total above 12,000,000 kg, or a count or totals that are not the sums of its grades'
 unfoldable pub unsound : Train → Bool

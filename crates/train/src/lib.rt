@@ -1,27 +1,13 @@
 // A car worked out alone, and the running train.
-use base::GRADES;
 use base::MOST_CARS;
 use car::CarAnswer;
+use summing::Sums;
 
-mod adding; // adding.rt: accepted cars and their total masses
 mod alone; // alone.rt: a car by itself
 mod running; // running.rt: the running train
 
 pub use alone::work_out;
 pub use running::enter_on;
-
-// How many cars are accepted, and their gross and net in kg.
-pub struct Totals {
-    pub accepted: u32,
-    pub gross: u64,
-    pub net: u64,
-}
-
-// The totals of all accepted cars, and of those of each grade, grade 1 first.
-pub struct Sums {
-    pub all: Totals,
-    pub grades: [Totals; GRADES],
-}
 
 // The running train: its sums, and the numbers it holds, in the first `held` places.
 pub struct Train {

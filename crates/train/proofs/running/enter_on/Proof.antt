@@ -9,7 +9,7 @@ use denote.Ref.{now}
 use Rattle.base.specs.Limits.{mostCars}
 use Rattle.table.specs.Table.{Table}
 use Rattle.table.specs.Layout.{tablesOf}
-use Rattle.train.specs.declared.Sums.{Sums}
+use Rattle.summing.specs.declared.Sums.{Sums}
 use Rattle.train.specs.declared.Train.{Train}
 use Rattle.train.specs.Inner.{lentTrain}
 use Rattle.train.proofs.Entering.{place-away, place-left, taken-in, graded}

@@ -1,13 +1,25 @@
-// Accepted cars and their total masses: with one car more, and whether the totals of all cars are the sums of the grades'.
+// Accepted cars and their total masses, of all cars and of each grade: with one car more, and whether those of all are the sums of the grades'.
 ghost use mathlib.Core.Path.{_≡_};
 ghost use Prim.Native.Nat.{_+_, _≤_};
 ghost use lib.Dec.{eqb};
 ghost use Rattle.base.specs.Limits.{gradeCount};
-ghost use Rattle.train.specs.Sums.{together, sameTotals, withCar, sumsWith};
-ghost use Rattle.train.specs.Inner.{Low, Sound, shownAs, sumsAfter, Graded};
-use crate::Sums;
-use crate::Totals;
+ghost use Rattle.summing.specs.Sums.{together, sameTotals, withCar, sumsWith};
+ghost use Rattle.summing.specs.Inner.{Low, Sound, shownAs, sumsAfter, Graded};
+use base::GRADES;
 use car::CarAnswer;
+
+// How many cars are accepted, and their gross and net in kg.
+pub struct Totals {
+    pub accepted: u32,
+    pub gross: u64,
+    pub net: u64,
+}
+
+// The totals of all accepted cars, and of those of each grade, grade 1 first.
+pub struct Sums {
+    pub all: Totals,
+    pub grades: [Totals; GRADES],
+}
 
 // Whether four numbers make a sum. They are taken from it one after another, so that none of any size overflows.
 fn is_sum(sum: u64, a: u64, b: u64, c: u64, d: u64) -> bool
@@ -57,7 +69,7 @@ impl Sums {
     }
 
     // With a car's answer: its masses where it is accepted.
-    pub(crate) fn with_answer(self, grade: u32, answer: CarAnswer) -> Sums
+    pub fn with_answer(self, grade: u32, answer: CarAnswer) -> Sums
         requires { ⌜ Sound self × Graded grade answer ⌝ }
         ensures { λ r. ⌜ r ≡ sumsAfter self grade answer ⌝ }
     {
@@ -68,7 +80,7 @@ impl Sums {
     }
 
     // Whether the totals of all cars are the sums of the grades'.
-    pub(crate) fn adds_up(self) -> bool
+    pub fn adds_up(self) -> bool
         ensures { λ r. ⌜ r ≡ sameTotals (self .all) (together (self .grades)) ⌝ }
     {
         let all = self.all;

@@ -15,10 +15,10 @@ use Rattle.base.proofs.Choice.{same}
 use Rattle.base.proofs.Lists.{selected-append}
 use Rattle.base.proofs.Total.{total-append, total-same, total-selected, part-most}
 use Rattle.car.specs.Measured.{gross, net}
-use Rattle.train.specs.declared.Totals.{Totals}
-use Rattle.train.specs.declared.Sums.{Sums}
-use Rattle.train.specs.Sums.{Shown, shownMass, ofGrade, totalsOf, sumsOf, noTotals, noSums, totalIn, gradeTotals, together, sameTotals, withCar, gradesWith, sumsWith}
-use Rattle.train.specs.Inner.{Low, Sound}
+use Rattle.summing.specs.declared.Totals.{Totals}
+use Rattle.summing.specs.declared.Sums.{Sums}
+use Rattle.summing.specs.Sums.{Shown, shownMass, ofGrade, totalsOf, sumsOf, noTotals, noSums, totalIn, gradeTotals, together, sameTotals, withCar, gradesWith, sumsWith}
+use Rattle.summing.specs.Inner.{Low, Sound}
 
 abbrev totalsFrom : ℕ → ℕ → ℕ → Totals
 totalsFrom n g k = record { accepted = n; gross = g; net = k }

@@ -1,7 +1,7 @@
--- `train::adding::is_sum` meets its contract: what is taken from the sum is part of it, and the last part is the rest.
-use Rattle.train.proofs.Summing.{first-more, second-more, third-more, rest-last}
-use Rattle.train.proofs.adding.is_sum.Statement.{statement}
-use Rattle.train.proofs.adding.is_sum.Tie as tie
+-- `summing::is_sum` meets its contract: what is taken from the sum is part of it, and the last part is the rest.
+use Rattle.summing.proofs.Adding.{first-more, second-more, third-more, rest-last}
+use Rattle.summing.proofs.is_sum.Statement.{statement}
+use Rattle.summing.proofs.is_sum.Tie as tie
 
 returns : tie.Need-returns
 returns c = let z = c .before .args in first-more (z .sum) (z .a) (z .b) (z .c) (z .d) (c .if1 .taken)

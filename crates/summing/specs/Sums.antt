@@ -7,8 +7,8 @@ use lib.ListN.{length, getD, replicate}
 use Rattle.base.specs.Limits.{gradeCount}
 use Rattle.base.specs.Total.{total, selected}
 use Rattle.car.specs.Measured.{Mass, gross, net}
-use Rattle.train.specs.declared.Totals.{Totals}
-use Rattle.train.specs.declared.Sums.{Sums}
+use Rattle.summing.specs.declared.Totals.{Totals}
+use Rattle.summing.specs.declared.Sums.{Sums}
 
 -- an accepted car in the sums: its grade, and the gross and net shown for it, in kg
 pub record Shown : Type 0 where
@@ -35,6 +35,10 @@ sumsOf ss = record {
 }
 
 -- The sums that a train keeps.
+
+-- the greatest total, in kg
+abbrev pub mostInTrain : ℕ
+mostInTrain = 12_000_000
 
 abbrev pub noTotals : Totals
 noTotals = record { accepted = 0; gross = 0; net = 0 }

@@ -7,11 +7,11 @@ use borrow.Author.Tests.{not-true, not-false}
 use Rattle.base.specs.Limits.{gradeCount}
 use Rattle.base.proofs.Lists.{length-under}
 use Rattle.car.specs.Measured.{gross}
-use Rattle.train.specs.Sums.{totalIn}
-use Rattle.train.proofs.Summing.{four, added-up}
+use Rattle.summing.specs.Sums.{totalIn}
+use Rattle.summing.proofs.Adding.{four, added-up}
 use borrow.Author.Needs.{needs}
-use Rattle.train.proofs.Sums.adds_up.Statement.{statement}
-use Rattle.train.proofs.Sums.adds_up.Tie as tie
+use Rattle.summing.proofs.Sums.adds_up.Statement.{statement}
+use Rattle.summing.proofs.Sums.adds_up.Tie as tie
 
 -- t1 is the sums themselves, of which parts are copied
 grades-four : (s : tie.Start) → length (s .args .t1 .grades) ≡ gradeCount

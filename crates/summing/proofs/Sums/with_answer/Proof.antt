@@ -1,10 +1,10 @@
 -- `Sums::with_answer` meets its contract, by the two cases of the answer.
 use mathlib.Core.Path.{ap, sym, _∙_}
 use Rattle.car.specs.declared.CarAnswer.the-variants.{Accepted}
-use Rattle.train.specs.Inner.{sumsAfter, Graded}
+use Rattle.summing.specs.Inner.{sumsAfter, Graded}
 use borrow.Author.Needs.{needs}
-use Rattle.train.proofs.Sums.with_answer.Statement.{statement}
-use Rattle.train.proofs.Sums.with_answer.Tie as tie
+use Rattle.summing.proofs.Sums.with_answer.Statement.{statement}
+use Rattle.summing.proofs.Sums.with_answer.Tie as tie
 
 enum-known-answer : tie.Need-enum-known-answer
 enum-known-answer c = search needs

@@ -6,13 +6,13 @@ use native.Mathlib.Omega.{arith}
 use lib.ListN.{length, set}
 use Rattle.base.specs.Limits.{gradeCount}
 use Rattle.base.proofs.Lists.{length-under}
-use Rattle.train.specs.declared.Totals.{Totals}
-use Rattle.train.specs.declared.Sums.{Sums}
-use Rattle.train.specs.Inner.{shownAs}
-use Rattle.train.proofs.Summing.{grade-low, grade-set}
+use Rattle.summing.specs.declared.Totals.{Totals}
+use Rattle.summing.specs.declared.Sums.{Sums}
+use Rattle.summing.specs.Inner.{shownAs}
+use Rattle.summing.proofs.Adding.{grade-low, grade-set}
 use borrow.Author.Needs.{needs}
-use Rattle.train.proofs.Sums.with_car.Statement.{statement}
-use Rattle.train.proofs.Sums.with_car.Tie as tie
+use Rattle.summing.proofs.Sums.with_car.Statement.{statement}
+use Rattle.summing.proofs.Sums.with_car.Tie as tie
 
 abbrev sumsFrom : Totals → List Totals → Sums
 sumsFrom all grades = record { all = all; grades = grades }
