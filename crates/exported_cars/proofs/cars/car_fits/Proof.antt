@@ -1,4 +1,4 @@
--- `exported_parts::car_fits` meets its contract: each return follows from the tests before it.
+-- `exported_cars::car_fits` meets its contract: each return follows from the tests before it.
 use Rattle.base.proofs.Tests.{tests}
 use Rattle.exported_cars.specs.Layout.{carSized}
 use borrow.Author.Needs.{needs}

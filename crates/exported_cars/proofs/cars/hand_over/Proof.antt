@@ -1,4 +1,4 @@
--- `exported_parts::hand_over` meets its contract, by the two cases of the answer.
+-- `exported_cars::hand_over` meets its contract, by the two cases of the answer.
 use mathlib.Core.Path.{sym, ap}
 use borrow.Author.Needs.{needs}
 use Rattle.car.specs.Car.{carTold}

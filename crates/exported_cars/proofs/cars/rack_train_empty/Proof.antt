@@ -1,4 +1,4 @@
--- `exported_parts::rack_train_empty` meets its contract.
+-- `exported_cars::rack_train_empty` meets its contract.
 use mathlib.Core.Path.{ap, _∙_}
 use borrow.Author.Tests.{eq-eqb, ne-eqb}
 use borrow.Author.Needs.{needs}

@@ -1,4 +1,4 @@
--- `exported_parts::rack_train_enter` meets its contract: the train, the tables and the car that were copied are those that were lent.
+-- `exported_cars::rack_train_enter` meets its contract: the train, the tables and the car that were copied are those that were lent.
 use Prim.Native.Nat.{ℕ, _<_}
 use mathlib.Core.Path.{_≡_, refl, sym, ap, _∙_}
 use mathlib.Core.List.{List}

@@ -1,4 +1,4 @@
--- `exported_parts::rack_work_out` meets its contract: the tables and the car that were copied are those that were lent.
+-- `exported_cars::rack_work_out` meets its contract: the tables and the car that were copied are those that were lent.
 use mathlib.Core.Path.{sym, ap, _∙_}
 use mathlib.Core.List.{List}
 use borrow.Author.Needs.{needs}

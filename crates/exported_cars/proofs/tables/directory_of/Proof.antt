@@ -1,4 +1,4 @@
--- `exported_parts::directory_of` meets its contract: both slices of four are copied.
+-- `exported_cars::directory_of` meets its contract: both slices of four are copied.
 use borrow.Author.Needs.{needs}
 use Rattle.exported_cars.proofs.tables.directory_of.Statement.{statement}
 use Rattle.exported_cars.proofs.tables.directory_of.Tie as tie

@@ -1,4 +1,4 @@
--- `exported_parts::rack_check_tables` meets its contract: the tables that were copied are those that were lent.
+-- `exported_cars::rack_check_tables` meets its contract: the tables that were copied are those that were lent.
 use mathlib.Core.Path.{sym, ap, _∙_}
 use mathlib.Core.List.{[]}
 use borrow.Author.Needs.{needs}

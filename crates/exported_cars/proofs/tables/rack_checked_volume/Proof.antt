@@ -1,4 +1,4 @@
--- `exported_parts::rack_checked_volume` meets its contract: the tables that were copied are those that were lent.
+-- `exported_cars::rack_checked_volume` meets its contract: the tables that were copied are those that were lent.
 use mathlib.Core.Path.{_≡_, sym, ap, _∙_}
 use mathlib.Core.List.{List}
 use borrow.Author.Needs.{needs}

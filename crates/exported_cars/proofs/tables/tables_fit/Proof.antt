@@ -1,4 +1,4 @@
--- `exported_parts::tables_fit` meets its contract: each return follows from the tests before it.
+-- `exported_cars::tables_fit` meets its contract: each return follows from the tests before it.
 use Rattle.base.proofs.Tests.{tests}
 use Rattle.exported_cars.specs.Layout.{tablesSized}
 use Rattle.exported_cars.proofs.tables.tables_fit.Statement.{statement}
