@@ -18,7 +18,7 @@ use Rattle.car.specs.Car.{carTests}
 use Rattle.summing.specs.declared.Totals.{Totals}
 use Rattle.summing.specs.declared.Sums.{Sums}
 use Rattle.train.specs.declared.Train.{Train}
-use Rattle.summing.specs.Sums.{Shown, noTotals, gradesWith}
+use Rattle.summing.specs.Sums.{Shown, totalsFrom, noTotals, gradesWith}
 use Rattle.train.specs.Train.{admissionTests, carShown, afterBy, enterTrain}
 use Rattle.exported_parts.specs.Handed.{lengthIs}
 use Rattle.exported_cars.specs.Layout.{half, joined, totalsPlaces, totalsAt, totalsNumbers, sumsPlaces, trainPlaces, trainOf, gradesNumbers, sumsNumbers, trainNumbers, carSized, trainSized, TrainHanded}
@@ -77,9 +77,6 @@ train-written t lent e n g =
     ∙ append-assoc x (t .held ∷ []) (t .numbers)
 
 -- Reading.
-
-abbrev totalsFrom : ℕ → ℕ → ℕ → Totals
-totalsFrom accepted gross net = record { accepted = accepted; gross = gross; net = net }
 
 abbrev trainFrom : Totals → List Totals → ℕ → List ℕ → Train
 trainFrom all grades held numbers = record { sums = record { all = all; grades = grades }; held = held; numbers = numbers }

@@ -1,4 +1,4 @@
-pub mod Paper
+pub mod AgainstPaper
 pub mod Appending
 pub mod Cars
 pub mod Lines

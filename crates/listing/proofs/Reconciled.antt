@@ -43,7 +43,7 @@ use Rattle.listing.specs.Listing.{itemsOf, answerLine, totalsLine, grade
 use Rattle.listing.specs.Reconciled.{Small, linesWith, EachAnswered, loadsOf, shownOf, totalsShown, gradesShown, SumOf, SheetReconciled}
 use Rattle.listing.specs.Paper.{PaperExample}
 use Rattle.listing.proofs.Lines.{Fit, car-fit, all-fit, sheet-refused-fit}
-use Rattle.listing.proofs.Paper.{paper-example}
+use Rattle.listing.proofs.AgainstPaper.{paper-example}
 use Rattle.listing.proofs.Run.{number-small, text-most}
 
 lines-small : (ts : List Table) → tablesVerdict ts ≡ accepts → (t : Train) (cars : List (List ℕ)) → EachCar cars → Each Small (totalsLines (trainFrom t (itemsOf ts cars) .sums))

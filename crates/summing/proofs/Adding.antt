@@ -2,7 +2,7 @@
 use Prim.Native.Nat.{ℕ, zero, suc, _+_, _-_, _≤_, _<_}
 use mathlib.Core.Path.{_≡_, refl, ap, sym, _∙_}
 use mathlib.Core.Logic.{⊎-elim}
-use mathlib.Core.Bool.{Bool, true, false, cond, _&&_, true≢false}
+use mathlib.Core.Bool.{Bool, true, false, cond, _&&_}
 use mathlib.Core.List.{List, [], _∷_, _++_, append-nil}
 use native.Mathlib.Omega.{arith}
 use lib.Dec.{eqb}
@@ -11,17 +11,14 @@ use borrow.Author.Tests.{eq-eqb, ne-eqb, eqb-true}
 use Rattle.base.specs.Limits.{gradeCount}
 use Rattle.base.specs.Lists.{Each}
 use Rattle.base.specs.Total.{total}
-use Rattle.base.proofs.Choice.{same}
+use Rattle.base.proofs.Choice.{same, both-hold}
 use Rattle.base.proofs.Lists.{selected-append}
 use Rattle.base.proofs.Total.{total-append, total-same, total-selected, part-most}
 use Rattle.car.specs.Measured.{gross, net}
 use Rattle.summing.specs.declared.Totals.{Totals}
 use Rattle.summing.specs.declared.Sums.{Sums}
-use Rattle.summing.specs.Sums.{Shown, shownMass, ofGrade, totalsOf, sumsOf, noTotals, noSums, totalIn, gradeTotals, together, sameTotals, withCar, gradesWith, sumsWith}
+use Rattle.summing.specs.Sums.{Shown, shownMass, ofGrade, totalsOf, sumsOf, totalsFrom, noTotals, noSums, totalIn, gradeTotals, together, sameTotals, withCar, gradesWith, sumsWith}
 use Rattle.summing.specs.Inner.{Low, Sound}
-
-abbrev totalsFrom : ℕ → ℕ → ℕ → Totals
-totalsFrom n g k = record { accepted = n; gross = g; net = k }
 
 same-parts : {a b c x y z : ℕ} → a ≡ x → b ≡ y → c ≡ z → totalsFrom a b c ≡ totalsFrom x y z
 same-parts p q r = rw (p, q, r)
@@ -148,10 +145,6 @@ grade-set g (suc i) s (t ∷ ts) e h =
     rw (ne-eqb (s .grade) g (λ q. omega arith)) (ap (λ (l : List Totals). t ∷ l) (grade-set (g + 1) i s ts (omega arith) (omega arith)))
 
 -- Equality as a test.
-
-both-hold : (a b : Bool) → (a && b) ≡ true → (a ≡ true) × (b ≡ true)
-both-hold true b e = (refl, e)
-both-hold false b e = absurd (true≢false (sym e))
 
 pub same-totals : {a b : Totals} → sameTotals a b ≡ true → a ≡ b
 same-totals {a} {b} e =

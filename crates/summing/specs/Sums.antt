@@ -40,8 +40,12 @@ sumsOf ss = record {
 abbrev pub mostInTrain : ℕ
 mostInTrain = 12_000_000
 
+-- totals by their numbers
+abbrev pub totalsFrom : ℕ → ℕ → ℕ → Totals
+totalsFrom n g k = record { accepted = n; gross = g; net = k }
+
 abbrev pub noTotals : Totals
-noTotals = record { accepted = 0; gross = 0; net = 0 }
+noTotals = totalsFrom 0 0 0
 
 abbrev pub noSums : Sums
 noSums = record { all = noTotals; grades = replicate gradeCount noTotals }

@@ -67,39 +67,39 @@ impl Sums {
         next.grades[place] = of_grade.with_car(grade, gross, net);
         next
     }
+}
 
-    // With a car's answer: its masses where it is accepted.
-    pub fn with_answer(self, grade: u32, answer: CarAnswer) -> Sums
-        requires { ⌜ Sound self × Graded grade answer ⌝ }
-        ensures { λ r. ⌜ r ≡ sumsAfter self grade answer ⌝ }
-    {
-        match answer {
-            CarAnswer::Accepted(f) => self.with_car(grade, f.gross, f.net),
-            CarAnswer::Refused(_) => self,
-        }
+// The sums with a car's answer: its masses where it is accepted.
+pub fn with_answer(sums: Sums, grade: u32, answer: CarAnswer) -> Sums
+    requires { ⌜ Sound sums × Graded grade answer ⌝ }
+    ensures { λ r. ⌜ r ≡ sumsAfter sums grade answer ⌝ }
+{
+    match answer {
+        CarAnswer::Accepted(f) => sums.with_car(grade, f.gross, f.net),
+        CarAnswer::Refused(_) => sums,
     }
+}
 
-    // Whether the totals of all cars are the sums of the grades'.
-    pub fn adds_up(self) -> bool
-        ensures { λ r. ⌜ r ≡ sameTotals (self .all) (together (self .grades)) ⌝ }
-    {
-        let all = self.all;
-        let a = self.grades[0];
-        let b = self.grades[1];
-        let c = self.grades[2];
-        let d = self.grades[3];
-        if !is_sum(
-            all.accepted as u64,
-            a.accepted as u64,
-            b.accepted as u64,
-            c.accepted as u64,
-            d.accepted as u64,
-        ) {
-            return false;
-        }
-        if !is_sum(all.gross, a.gross, b.gross, c.gross, d.gross) {
-            return false;
-        }
-        is_sum(all.net, a.net, b.net, c.net, d.net)
+// Whether the totals of all cars are the sums of the grades'.
+pub fn adds_up(sums: Sums) -> bool
+    ensures { λ r. ⌜ r ≡ sameTotals (sums .all) (together (sums .grades)) ⌝ }
+{
+    let all = sums.all;
+    let a = sums.grades[0];
+    let b = sums.grades[1];
+    let c = sums.grades[2];
+    let d = sums.grades[3];
+    if !is_sum(
+        all.accepted as u64,
+        a.accepted as u64,
+        b.accepted as u64,
+        c.accepted as u64,
+        d.accepted as u64,
+    ) {
+        return false;
     }
+    if !is_sum(all.gross, a.gross, b.gross, c.gross, d.gross) {
+        return false;
+    }
+    is_sum(all.net, a.net, b.net, c.net, d.net)
 }

@@ -1,4 +1,4 @@
-pub mod Examples
+pub mod AgainstExamples
 pub mod Taken
 pub mod Order
 pub mod Entering

@@ -13,7 +13,7 @@ use Rattle.car.specs.Card.{cardTables}
 use Rattle.summing.specs.declared.Totals.{Totals}
 use Rattle.summing.specs.declared.Sums.{Sums}
 use Rattle.train.specs.declared.Train.{Train}
-use Rattle.summing.specs.Sums.{noTotals}
+use Rattle.summing.specs.Sums.{totalsFrom, noTotals}
 use Rattle.train.specs.Train.{emptyTrain, enterAnswer}
 use Rattle.train.specs.Book.{Item, car, Entry, alone, loaded, loadOf, bookFrom, verdictsFrom}
 use Rattle.train.specs.Demand3.{trainFrom, Comparable}
@@ -26,10 +26,6 @@ exampleCar number kind temperature =
 -- a table whose second row does not rise
 abbrev badTables : List Table
 badTables = record { kind = 1; rows = record { level = 0; capacity = 0 } ∷ record { level = 0; capacity = 5 } ∷ [] } ∷ []
-
--- so many accepted cars, with their gross and net
-abbrev totalsFrom : ℕ → ℕ → ℕ → Totals
-totalsFrom accepted gross net = record { accepted = accepted; gross = gross; net = net }
 
 -- of all cars, and of grades 1 to 4
 abbrev sumsFrom : Totals → Totals → Totals → Totals → Totals → Sums

@@ -66,7 +66,7 @@ impl Train {
         if MOST_IN_TRAIN < all.net {
             return true;
         }
-        !sums.adds_up()
+        !summing::adds_up(sums)
     }
 
     // Enters a car with its tables: its answer, and the train to hand in with the next.
@@ -167,7 +167,7 @@ pub fn enter_on(
     let grade = car.grade;
     let answer = car::work_on(d, levels, capacities, car);
     let before = tally.sums;
-    let sums = before.with_answer(grade, answer);
+    let sums = summing::with_answer(before, grade, answer);
     let place = held as usize;
     numbers[place] = number;
     let next = Tally {

@@ -1,6 +1,7 @@
 -- `listing::write_totals` meets its contract: S, and each turn writes a grade's line.
 use Prim.Native.Nat.{_-_}
 use mathlib.Core.Path.{_∙_}
+use native.Mathlib.Omega.{arith}
 use borrow.Author.Needs.{needs}
 use denote.Ref.{now}
 use Rattle.base.specs.Limits.{gradeCount}
@@ -57,7 +58,7 @@ grade-line-requires c κs =
     let l = k .before in
     let a = l .before .before .before in
     let s = a .before .before .before .before .before in
-    of-grade (now (s .args .out)) (s .args .at) (s .args .t3) (s .pre) (a .append-line .last .0) (a .append-line .result) (l .loop .out) (l .loop .place) (l .loop .i) (l .loop .inv) (k .loop-test .taken)
+    of-grade (now (s .args .out)) (s .args .at) (s .args .t3) (s .pre) (a .append-line .last .0) (a .append-line .result) (l .loop .out) (l .loop .place) (l .loop .i) (l .loop .inv) (omega (arith, k .loop-test .taken))
 
 append-line-requires-2 : tie.Need-append-line-requires-2 Inv-loop μ-loop
 append-line-requires-2 c κs =
@@ -65,7 +66,7 @@ append-line-requires-2 c κs =
     let l = k .before in
     let a = l .before .before .before in
     let s = a .before .before .before .before .before in
-    rw (c .grade-line .ensures) (grade-room (now (s .args .out)) (s .args .at) (s .args .t3) (s .pre) (a .append-line .last .0) (a .append-line .result) (l .loop .out) (l .loop .place) (l .loop .i) (l .loop .inv) (k .loop-test .taken))
+    rw (c .grade-line .ensures) (grade-room (now (s .args .out)) (s .args .at) (s .args .t3) (s .pre) (a .append-line .last .0) (a .append-line .result) (l .loop .out) (l .loop .place) (l .loop .i) (l .loop .inv) (omega (arith, k .loop-test .taken)))
 
 add-i : tie.Need-add-i Inv-loop μ-loop
 add-i c = search needs
@@ -81,7 +82,7 @@ loop-again c =
     let l = k .before in
     let a = l .before .before .before in
     let s = a .before .before .before .before .before in
-    grade-turn (now (s .args .out)) (s .args .at) (s .args .t3) (s .pre) (a .append-line .last .0) (a .append-line .result) (l .loop .out) (l .loop .place) (l .loop .i) (l .loop .inv) (k .loop-test .taken) (n .grade-line .result) (w .append-line2 .last .0)
+    grade-turn (now (s .args .out)) (s .args .at) (s .args .t3) (s .pre) (a .append-line .last .0) (a .append-line .result) (l .loop .out) (l .loop .place) (l .loop .i) (l .loop .inv) (omega (arith, k .loop-test .taken)) (n .grade-line .result) (w .append-line2 .last .0)
     (w .append-line2 .result) (n .grade-line .ensures) (w .append-line2 .ensures .1) (w .append-line2 .ensures .0) (w .append-line2 .kept .0)
 
 same-length : tie.Need-same-length Inv-loop μ-loop
@@ -92,7 +93,7 @@ returns c =
     let l = c .before in
     let a = l .before .before .before in
     let s = a .before .before .before .before .before in
-    closed (now (s .args .out)) (s .args .at) (s .args .t3) (s .pre) (a .append-line .last .0) (a .append-line .result) (l .loop .out) (l .loop .place) (l .loop .i) (l .loop .inv) (c .loop-test .left) (first a)
+    closed (now (s .args .out)) (s .args .at) (s .args .t3) (s .pre) (a .append-line .last .0) (a .append-line .result) (l .loop .out) (l .loop .place) (l .loop .i) (l .loop .inv) (omega (arith, c .loop-test .left)) (first a)
 
 pub write-totals-spec : {M : Type 1} → statement M
 write-totals-spec =

@@ -21,7 +21,7 @@ use Rattle.train.proofs.Order.{in-order}
 use Rattle.train.specs.Examples.{EnterOrder}
 use Rattle.train.specs.Inner.{lentTrain}
 use Rattle.train.proofs.Book.{continues}
-use Rattle.train.proofs.Examples.{enter-order}
+use Rattle.train.proofs.AgainstExamples.{enter-order}
 use Rattle.train.proofs.Entering.{not-sound, tables-away, unsound-away}
 use Rattle.train.proofs.Train.enter.Statement.{statement}
 use Rattle.train.proofs.Train.enter.Tie as tie

@@ -22,7 +22,7 @@ use Rattle.car.proofs.Card.{all-right}
 use Rattle.car.proofs.OperationsCard.{operations-right}
 use Rattle.car.proofs.ExactCard.{exact-right}
 use Rattle.train.specs.Examples.{OrderExample}
-use Rattle.train.proofs.Examples.{order-example}
+use Rattle.train.proofs.AgainstExamples.{order-example}
 use Rattle.train.proofs.Taken.{close}
 use Rattle.train.proofs.Order.{in-order}
 use Rattle.train.proofs.alone.work_out.Statement.{statement}

@@ -1,5 +1,5 @@
 -- `train::enter_on` meets its contract: the train's refusals first, then the car's own answer.
-use Prim.Native.Nat.{ℕ, _+_, _<_}
+use Prim.Native.Nat.{_+_, _<_}
 use mathlib.Core.Path.{ap, _∙_}
 use mathlib.Core.List.{List}
 use native.Mathlib.Omega.{arith}
@@ -21,9 +21,6 @@ all s = tablesOf (s .args .d) (now (s .args .levels)) (now (s .args .capacities)
 
 abbrev train : tie.Start → Train
 train s = lentTrain (s .args .tally) (now (s .args .numbers))
-
-abbrev trainFrom : Sums → ℕ → List ℕ → Train
-trainFrom sums held numbers = record { sums = sums; held = held; numbers = numbers }
 
 -- past 9 there is a place for the number
 place-in : (w : tie.After-work-on) → w .before .before .before .before .args .tally .held < mostCars
@@ -74,7 +71,7 @@ returns-2 c =
     let r = l .before in
     let s = r .before .before in
     let t = taken-in (all s) (train s) (s .args .car) (s .pre .2 .accepted) (s .pre .1) (w .work-on .result) (r .place-refusal .ensures) (l .if1 .left) (w .work-on .ensures) in
-    (t .0, ap (λ (x : Sums). trainFrom x (s .args .tally .held + 1) (set (now (s .args .numbers)) (s .args .tally .held) (s .args .car .number))) (c .with-answer .ensures) ∙ t .1)
+    (t .0, ap (λ (x : Sums). lentTrain (record { sums = x; held = s .args .tally .held + 1 }) (set (now (s .args .numbers)) (s .args .tally .held) (s .args .car .number))) (c .with-answer .ensures) ∙ t .1)
 
 pub enter-on-spec : {M : Type 1} → statement M
 enter-on-spec =

@@ -1,10 +1,10 @@
--- `Sums::with_answer` meets its contract, by the two cases of the answer.
+-- `summing::with_answer` meets its contract, by the two cases of the answer.
 use mathlib.Core.Path.{ap, sym, _∙_}
 use Rattle.car.specs.declared.CarAnswer.the-variants.{Accepted}
 use Rattle.summing.specs.Inner.{sumsAfter, Graded}
 use borrow.Author.Needs.{needs}
-use Rattle.summing.proofs.Sums.with_answer.Statement.{statement}
-use Rattle.summing.proofs.Sums.with_answer.Tie as tie
+use Rattle.summing.proofs.with_answer.Statement.{statement}
+use Rattle.summing.proofs.with_answer.Tie as tie
 
 enum-known-answer : tie.Need-enum-known-answer
 enum-known-answer c = search needs
@@ -23,7 +23,7 @@ returns : tie.Need-returns
 returns c =
     let m = c .before .before in
     let a = m .before .before .args in
-    c .with-car .ensures ∙ ap (sumsAfter (a .self) (a .grade)) (sym (m .answer .given .1))
+    c .with-car .ensures ∙ ap (sumsAfter (a .sums) (a .grade)) (sym (m .answer .given .1))
 
 returns-2 : tie.Need-returns-2
 returns-2 c = search needs

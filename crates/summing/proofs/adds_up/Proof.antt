@@ -1,4 +1,4 @@
--- `Sums::adds_up` meets its contract: accepted cars, gross and net are tested one after another.
+-- `summing::adds_up` meets its contract: accepted cars, gross and net are tested one after another.
 use mathlib.Core.Path.{_≡_, sym, _∙_}
 use mathlib.Core.Bool.{true, false}
 use lib.Dec.{eqb}
@@ -10,8 +10,8 @@ use Rattle.car.specs.Measured.{gross}
 use Rattle.summing.specs.Sums.{totalIn}
 use Rattle.summing.proofs.Adding.{four, added-up}
 use borrow.Author.Needs.{needs}
-use Rattle.summing.proofs.Sums.adds_up.Statement.{statement}
-use Rattle.summing.proofs.Sums.adds_up.Tie as tie
+use Rattle.summing.proofs.adds_up.Statement.{statement}
+use Rattle.summing.proofs.adds_up.Tie as tie
 
 -- t1 is the sums themselves, of which parts are copied
 grades-four : (s : tie.Start) → length (s .args .t1 .grades) ≡ gradeCount
