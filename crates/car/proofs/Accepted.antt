@@ -11,7 +11,7 @@ use Rattle.base.specs.Limits.{inUnits}
 use Rattle.base.specs.Answer.{Test, accepts, refuses, first}
 use Rattle.base.proofs.Choice.{neither}
 use Rattle.base.proofs.Answer.{not-applied, accepted-parts}
-use Rattle.level.specs.Level.{unusedBad, readingsTests}
+use Rattle.level.specs.Level.{readingsTests}
 use Rattle.table.specs.Table.{Table, tablesVerdict, unknown, lastLevel}
 use Rattle.table.proofs.Rising.{Rising, tables-rising}
 use Rattle.capacity.specs.Capacity.{above, levelTests}
@@ -32,7 +32,7 @@ use Rattle.car.specs.Exact.{volumeˣ, Uncut}
 
 -- a figure beside the law, which a list without the readings' tests, or with these behind 16, refuses: three readings, all 0
 fourteen-first : first (carTests cardTables (carOf (1 ∷ 1 ∷ 3 ∷ 1 ∷ 3 ∷ 0 ∷ 0 ∷ 0 ∷ 0 ∷ 0 ∷ 600 ∷ 9_500 ∷ 50 ∷ 20 ∷ []))) ≡ refuses 14
-unfolding carTests measuredTests unusedBad
+unfolding carTests measuredTests
 fourteen-first = refl
 
 -- no refusal of the tables applies, nor 12, 13 or 16 to 21

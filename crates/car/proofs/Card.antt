@@ -1,7 +1,7 @@
 -- The rack card's figures, computed from the definitions.
 use mathlib.Core.Path.{refl}
 use Rattle.base.specs.Rounding.{rounded}
-use Rattle.level.specs.Level.{meanLevel, unusedBad, disagree}
+use Rattle.level.specs.Level.{meanLevel}
 use Rattle.level.specs.Tape.{allowanceAnswer}
 use Rattle.capacity.specs.Capacity.{interpolated, capacityAt}
 use Rattle.capacity.specs.Capacity as capacity
@@ -12,5 +12,5 @@ use Rattle.car.specs.Car.{carTests, aloneTests, aloneAnswer}
 use Rattle.car.specs.Card.{card, AllRight}
 
 pub all-right : AllRight
-unfolding card rounded meanLevel unusedBad disagree allowanceAnswer interpolated capacityAt capacity.v0 thermal.expansion thermal.exponent thermal.term thermal.series thermal.factor thermal.densityAt steps.stickCoefficient steps.hotVolume steps.coldVolume steps.gross steps.net steps.volume15Of steps.grossOf steps.netOf measuredTests carTests aloneTests aloneAnswer v0 sixFigures
+unfolding card rounded meanLevel allowanceAnswer interpolated capacityAt capacity.v0 thermal.expansion thermal.exponent thermal.term thermal.series thermal.factor thermal.densityAt steps.stickCoefficient steps.hotVolume steps.coldVolume steps.gross steps.net steps.volume15Of steps.grossOf steps.netOf measuredTests carTests aloneTests aloneAnswer v0 sixFigures
 all-right = record { each = (refl, (refl, (refl, (refl, (refl, (refl, (refl, (refl, (refl, (refl, (refl, (refl, (refl, (refl, (refl, (refl, (refl, (refl, (refl, (refl, (refl, (refl, (refl, (refl, (refl, (refl, (refl, (refl, (refl, (refl, (refl, (refl, (refl, (refl, (refl, (refl, (refl, (refl, (refl, (refl, (refl, (refl, (refl, (refl, (refl, (refl, (refl, (refl, (refl, (refl, (refl, (refl, (refl, (refl, (refl, (refl, (refl, (refl, (refl, (refl, (refl, (refl, (refl, (refl, (refl, (refl, (refl, (refl, (refl, (refl, (refl, (refl, (refl, (refl, (refl, (refl, (refl, (refl, (refl, (refl, (refl, (refl, (refl, (refl, (refl, (refl, (refl, (refl, (refl, (refl, (refl, (refl, (refl, (refl, (refl, (refl, (refl, (refl, (refl, (refl, (refl, tt))))))))))))))))))))))))))))))))))))))))))))))))))))))))))))))))))))))))))))))))))))))))))))))))))))) }

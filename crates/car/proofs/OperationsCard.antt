@@ -1,7 +1,7 @@
 -- The figures of the card of single operations, computed from the definitions.
 use mathlib.Core.Path.{refl}
 use Rattle.base.specs.Rounding.{rounded}
-use Rattle.level.specs.Level.{meanLevel, unusedBad, disagree, meanLevelAnswer}
+use Rattle.level.specs.Level.{meanLevel, meanLevelAnswer}
 use Rattle.level.specs.Tape.{allowanceAnswer}
 use Rattle.capacity.specs.Capacity.{interpolated, capacityAt, volumeAnswer}
 use Rattle.capacity.specs.Capacity as capacity
@@ -9,5 +9,5 @@ use Rattle.thermal.specs.Steps as thermal
 use Rattle.car.specs.OperationsCard.{card, OperationsRight}
 
 pub operations-right : OperationsRight
-unfolding card rounded meanLevel unusedBad disagree meanLevelAnswer allowanceAnswer interpolated capacityAt volumeAnswer capacity.v0 thermal.expansion thermal.exponent thermal.term thermal.series thermal.factor thermal.densityAt
+unfolding card rounded meanLevel meanLevelAnswer allowanceAnswer interpolated capacityAt volumeAnswer capacity.v0 thermal.expansion thermal.exponent thermal.term thermal.series thermal.factor thermal.densityAt
 operations-right = record { each = (refl, (refl, (refl, (refl, (refl, (refl, (refl, (refl, (refl, (refl, (refl, (refl, (refl, (refl, (refl, (refl, (refl, (refl, (refl, (refl, (refl, (refl, (refl, (refl, (refl, (refl, (refl, (refl, (refl, (refl, (refl, (refl, (refl, (refl, (refl, (refl, (refl, (refl, (refl, (refl, (refl, (refl, (refl, tt))))))))))))))))))))))))))))))))))))))))))) }

@@ -3,31 +3,36 @@ use mathlib.Core.Path.{_≡_, refl}
 use mathlib.Core.List.{[], _∷_}
 use Rattle.base.specs.Rounding.{rounded}
 use Rattle.base.specs.Answer.{figures, refusal}
-use Rattle.level.specs.Level.{meanLevel, unusedBad, disagree, meanLevelAnswer}
+use Rattle.level.specs.Level.{meanLevel, meanLevelAnswer}
 use Rattle.level.specs.Tape.{allowanceAnswer}
 
 -- Levels in mm. The number of readings, the readings, and the answer.
 
 pub closest-three : meanLevelAnswer 4 (1_500 ∷ 1_504 ∷ 1_501 ∷ 1_502 ∷ []) ≡ figures (1_501 ∷ [])
-unfolding meanLevelAnswer unusedBad disagree meanLevel rounded
+unfolding meanLevelAnswer meanLevel rounded
 closest-three = refl
 
 -- two triples as close: the lower one
 pub lower-triple : meanLevelAnswer 4 (1_500 ∷ 1_503 ∷ 1_501 ∷ 1_502 ∷ []) ≡ figures (1_501 ∷ [])
-unfolding meanLevelAnswer unusedBad disagree meanLevel rounded
+unfolding meanLevelAnswer meanLevel rounded
 lower-triple = refl
 
 pub two-apart : meanLevelAnswer 2 (1_500 ∷ 1_502 ∷ 0 ∷ 0 ∷ []) ≡ refusal 15
-unfolding meanLevelAnswer unusedBad disagree meanLevel rounded
+unfolding meanLevelAnswer meanLevel rounded
 two-apart = refl
+
+-- two apart and an unused one that is not 0
+pub fourteen-first : meanLevelAnswer 2 (1_500 ∷ 1_502 ∷ 1 ∷ 0 ∷ []) ≡ refusal 14
+unfolding meanLevelAnswer meanLevel rounded
+fourteen-first = refl
 
 -- a half goes up
 pub two-agree : meanLevelAnswer 2 (1_500 ∷ 1_501 ∷ 0 ∷ 0 ∷ []) ≡ figures (1_501 ∷ [])
-unfolding meanLevelAnswer unusedBad disagree meanLevel rounded
+unfolding meanLevelAnswer meanLevel rounded
 two-agree = refl
 
 pub level-nought : meanLevelAnswer 2 (0 ∷ 0 ∷ 0 ∷ 0 ∷ []) ≡ refusal 16
-unfolding meanLevelAnswer unusedBad disagree meanLevel rounded
+unfolding meanLevelAnswer meanLevel rounded
 level-nought = refl
 
 -- Levels in mm and tape allowances in 0.01 mm.

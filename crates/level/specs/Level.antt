@@ -24,13 +24,17 @@ sorted (x ∷ xs) = inserted x (sorted xs)
 abbrev pub meanOf : ℕ → ℕ → ℕ
 meanOf sum n = rounded (levelUnits * sum) n
 
--- R of the mean of the three closest of a, b, c, d, which stand in rising order; the lower three where both triples are as close
-abbrev pub closest : ℕ → ℕ → ℕ → ℕ → ℕ
-closest a b c d = cond (leb (c - a) (d - b)) (meanOf (a + b + c) 3) (meanOf (b + c + d) 3)
+-- the three closest of a, b, c, d, which stand in rising order; the lower three where both triples are as close
+abbrev pub closest : ℕ → ℕ → ℕ → ℕ → List ℕ
+closest a b c d = cond (leb (c - a) (d - b)) (a ∷ b ∷ c ∷ []) (b ∷ c ∷ d ∷ [])
 
 -- the same of a list of four in rising order
-abbrev pub closestOf : List ℕ → ℕ
+abbrev pub closestOf : List ℕ → List ℕ
 closestOf s = closest (getD s 0 0) (getD s 1 0) (getD s 2 0) (getD s 3 0)
+
+-- R of the mean of three readings
+abbrev pub meanOfThree : List ℕ → ℕ
+meanOfThree t = meanOf (getD t 0 0 + getD t 1 0 + getD t 2 0) 3
 
 -- two readings differ by more than 1 mm
 abbrev pub apart : ℕ → ℕ → Bool
@@ -38,14 +42,14 @@ apart a b = ltb 1 (cond (ltb a b) (b - a) (a - b))
 
 -- the mean level of four readings, of which the last two count only where the first two are apart
 unfoldable pub meanLevel : List ℕ → ℕ
-meanLevel x = cond (apart (getD x 0 0) (getD x 1 0)) (closestOf (sorted x)) (meanOf (getD x 0 0 + getD x 1 0) 2)
+meanLevel x = cond (apart (getD x 0 0) (getD x 1 0)) (meanOfThree (closestOf (sorted x))) (meanOf (getD x 0 0 + getD x 1 0) 2)
 
 -- 14: the number n of readings is neither 2 nor 4, or an unused one is not 0
-unfoldable pub unusedBad : ℕ → List ℕ → Bool
+abbrev pub unusedBad : ℕ → List ℕ → Bool
 unusedBad n x = not (eqb n 2 || eqb n 4) || eqb n 2 && (not (eqb (getD x 2 0) 0) || not (eqb (getD x 3 0) 0))
 
 -- 15: two readings are given and they are apart
-unfoldable pub disagree : ℕ → List ℕ → Bool
+abbrev pub disagree : ℕ → List ℕ → Bool
 disagree n x = eqb n 2 && apart (getD x 0 0) (getD x 1 0)
 
 -- the refusals of n readings, in the listed order

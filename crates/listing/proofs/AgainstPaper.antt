@@ -4,7 +4,7 @@ use Rattle.base.specs.Rounding.{rounded}
 use Rattle.field.specs.Field.{seenTo, fieldAt, justified, fieldOf}
 use Rattle.reading.specs.Reading.{letterOf, feed, feedAt, good, values, lineBy, lineAt}
 use Rattle.line.specs.Writing.{fieldsOf, lineOf}
-use Rattle.level.specs.Level.{meanLevel, unusedBad, disagree}
+use Rattle.level.specs.Level.{meanLevel}
 use Rattle.capacity.specs.Capacity.{interpolated, capacityAt}
 use Rattle.capacity.specs.Capacity as capacity
 use Rattle.thermal.specs.Steps as thermal
@@ -19,5 +19,5 @@ use Rattle.listing.specs.Listing.{replyOf}
 use Rattle.listing.specs.Paper.{paperSheet, paperListing, smallSheet, PaperExample}
 
 pub paper-example : PaperExample
-unfolding paperSheet paperListing smallSheet textOf replyOf rounded seenTo fieldAt justified fieldOf letterOf feed feedAt good values lineBy lineAt fieldsOf lineOf meanLevel unusedBad disagree interpolated capacityAt capacity.v0 thermal.expansion thermal.exponent thermal.term thermal.series thermal.factor thermal.densityAt steps.stickCoefficient steps.hotVolume steps.coldVolume steps.gross steps.net steps.volume15Of steps.grossOf steps.netOf measuredTests v0 mass sixFigures carTests total unsound full admissionTests enterTests enterAnswer enterTrain tableLine rowLine carLine endLine stepOf lines sheetOf
+unfolding paperSheet paperListing smallSheet textOf replyOf rounded seenTo fieldAt justified fieldOf letterOf feed feedAt good values lineBy lineAt fieldsOf lineOf meanLevel interpolated capacityAt capacity.v0 thermal.expansion thermal.exponent thermal.term thermal.series thermal.factor thermal.densityAt steps.stickCoefficient steps.hotVolume steps.coldVolume steps.gross steps.net steps.volume15Of steps.grossOf steps.netOf measuredTests v0 mass sixFigures carTests total unsound full admissionTests enterTests enterAnswer enterTrain tableLine rowLine carLine endLine stepOf lines sheetOf
 paper-example = record { listing = refl; no-cars = refl; refused = refl; reply = refl; refused-reply = refl; short = refl }

@@ -2,7 +2,7 @@
 use mathlib.Core.Path.{refl}
 use Rattle.base.specs.Rounding.{rounded}
 use Rattle.base.specs.Total.{total}
-use Rattle.level.specs.Level.{meanLevel, unusedBad, disagree}
+use Rattle.level.specs.Level.{meanLevel}
 use Rattle.capacity.specs.Capacity.{interpolated, capacityAt}
 use Rattle.capacity.specs.Capacity as capacity
 use Rattle.thermal.specs.Steps as thermal
@@ -14,15 +14,15 @@ use Rattle.train.specs.Book.{bookAdmission}
 use Rattle.train.specs.Examples.{list, BookExample, mixed, GradesExample, OrderExample, enteredCars, EnterOrder}
 
 pub book-example : BookExample
-unfolding total list unsound full bookAdmission admissionTests enterTrain carTests measuredTests rounded meanLevel unusedBad disagree interpolated capacityAt capacity.v0 thermal.expansion thermal.exponent thermal.term thermal.series thermal.factor thermal.densityAt steps.stickCoefficient steps.hotVolume steps.coldVolume steps.gross steps.net steps.volume15Of steps.grossOf steps.netOf v0 mass
+unfolding total list unsound full bookAdmission admissionTests enterTrain carTests measuredTests rounded meanLevel interpolated capacityAt capacity.v0 thermal.expansion thermal.exponent thermal.term thermal.series thermal.factor thermal.densityAt steps.stickCoefficient steps.hotVolume steps.coldVolume steps.gross steps.net steps.volume15Of steps.grossOf steps.netOf v0 mass
 book-example = record { book = refl; verdicts = refl; sums = refl }
 
 pub grades-example : GradesExample
-unfolding total mixed unsound full admissionTests enterTrain carTests measuredTests rounded meanLevel unusedBad disagree interpolated capacityAt capacity.v0 thermal.expansion thermal.exponent thermal.term thermal.series thermal.factor thermal.densityAt steps.stickCoefficient steps.hotVolume steps.coldVolume steps.gross steps.net steps.volume15Of steps.grossOf steps.netOf v0 mass
+unfolding total mixed unsound full admissionTests enterTrain carTests measuredTests rounded meanLevel interpolated capacityAt capacity.v0 thermal.expansion thermal.exponent thermal.term thermal.series thermal.factor thermal.densityAt steps.stickCoefficient steps.hotVolume steps.coldVolume steps.gross steps.net steps.volume15Of steps.grossOf steps.netOf v0 mass
 grades-example = record { sums = refl }
 
 pub order-example : OrderExample
-unfolding aloneAnswer aloneTests carTests measuredTests rounded meanLevel unusedBad disagree interpolated capacityAt thermal.expansion thermal.exponent thermal.term thermal.series thermal.factor thermal.densityAt
+unfolding aloneAnswer aloneTests carTests measuredTests rounded meanLevel interpolated capacityAt thermal.expansion thermal.exponent thermal.term thermal.series thermal.factor thermal.densityAt
 order-example = record {
   comparable = record {
     first = refl;

@@ -1,8 +1,7 @@
 -- `level::mean_of` meets its contract: the test chooses, and what is chosen is what the call ensures.
 use mathlib.Core.Path.{_∙_, ap, sym}
 use borrow.Author.Needs.{needs}
-use Rattle.level.specs.Level.{meanLevel, closestOf}
-use Rattle.level.proofs.Sorting.{rising}
+use Rattle.level.specs.Level.{meanLevel, meanOfThree}
 use Rattle.level.proofs.mean_of.Statement.{statement}
 use Rattle.level.proofs.mean_of.Tie as tie
 
@@ -15,29 +14,26 @@ array-read-b c = search needs
 are-apart-requires : tie.Need-are-apart-requires
 are-apart-requires c κs = search needs
 
-sorted-requires : tie.Need-sorted-requires
-sorted-requires c κs = search needs
+closest-requires : tie.Need-closest-requires
+closest-requires c κs = search needs
 
-array-read-mean-of-closest : tie.Need-array-read-mean-of-closest
-array-read-mean-of-closest c = search needs
+array-read-mean-of-three : tie.Need-array-read-mean-of-three
+array-read-mean-of-three c = search needs
 
-array-read-mean-of-closest-2 : tie.Need-array-read-mean-of-closest-2
-array-read-mean-of-closest-2 c = search needs
+array-read-mean-of-three-2 : tie.Need-array-read-mean-of-three-2
+array-read-mean-of-three-2 c = search needs
 
-array-read-mean-of-closest-3 : tie.Need-array-read-mean-of-closest-3
-array-read-mean-of-closest-3 c = search needs
+array-read-mean-of-three-3 : tie.Need-array-read-mean-of-three-3
+array-read-mean-of-three-3 c = search needs
 
-array-read-mean-of-closest-4 : tie.Need-array-read-mean-of-closest-4
-array-read-mean-of-closest-4 c = search needs
-
-mean-of-closest-requires : tie.Need-mean-of-closest-requires
-mean-of-closest-requires c κs = rising (c .before .before .before .args .t1) (c .sorted .result) (search needs) (c .sorted .ensures)
+mean-of-three-requires : tie.Need-mean-of-three-requires
+mean-of-three-requires c κs = search needs
 
 returns : tie.Need-returns
 unfolding meanLevel
 returns c =
     let apart = sym (c .before .before .before .are-apart .ensures) ∙ c .before .before .if1 .taken in
-    c .mean-of-closest .ensures ∙ ap closestOf (c .before .sorted .ensures) ∙ rw apart
+    c .mean-of-three .ensures ∙ ap meanOfThree (c .before .closest .ensures) ∙ rw apart
 
 mean-of-two-requires : tie.Need-mean-of-two-requires
 mean-of-two-requires c κs = search needs
@@ -55,12 +51,11 @@ mean-of-spec =
     array-read-a
     array-read-b
     are-apart-requires
-    sorted-requires
-    array-read-mean-of-closest
-    array-read-mean-of-closest-2
-    array-read-mean-of-closest-3
-    array-read-mean-of-closest-4
-    mean-of-closest-requires
+    closest-requires
+    array-read-mean-of-three
+    array-read-mean-of-three-2
+    array-read-mean-of-three-3
+    mean-of-three-requires
     returns
     mean-of-two-requires
     returns-2)

@@ -7,22 +7,22 @@ use Rattle.level.proofs.readings_refusal.Tie as tie
 unused-bad-requires : tie.Need-unused-bad-requires
 unused-bad-requires c κs = search needs
 
+returns : tie.Need-returns
+returns c = rw (sym (c .before .unused-bad .ensures) ∙ c .if1 .taken)
+
 two-disagree-requires : tie.Need-two-disagree-requires
 two-disagree-requires c κs = search needs
-
-returns : tie.Need-returns
-returns c = rw (sym (c .before .before .unused-bad .ensures) ∙ c .if1 .taken)
 
 returns-2 : tie.Need-returns-2
 returns-2 c =
     let s = c .before .before in
-    rw (sym (s .before .unused-bad .ensures) ∙ c .before .if1 .left, sym (s .two-disagree .ensures) ∙ c .if2 .taken)
+    rw (sym (s .before .unused-bad .ensures) ∙ s .if1 .left, sym (c .before .two-disagree .ensures) ∙ c .if2 .taken)
 
 returns-3 : tie.Need-returns-3
 returns-3 c =
     let s = c .before .before in
-    rw (sym (s .before .unused-bad .ensures) ∙ c .before .if1 .left, sym (s .two-disagree .ensures) ∙ c .if2 .left)
+    rw (sym (s .before .unused-bad .ensures) ∙ s .if1 .left, sym (c .before .two-disagree .ensures) ∙ c .if2 .left)
 
 pub readings-refusal-spec : {M : Type 1} → statement M
 readings-refusal-spec =
-    tie.close (tie.spec unused-bad-requires two-disagree-requires returns returns-2 returns-3)
+    tie.close (tie.spec unused-bad-requires returns two-disagree-requires returns-2 returns-3)

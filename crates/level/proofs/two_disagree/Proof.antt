@@ -1,12 +1,10 @@
 -- `level::two_disagree` meets its contract: at each `return` the test that led there gives that of the definition.
 use borrow.Author.Needs.{needs}
 use Rattle.base.proofs.Tests.{decide}
-use Rattle.level.specs.Level.{disagree}
 use Rattle.level.proofs.two_disagree.Statement.{statement}
 use Rattle.level.proofs.two_disagree.Tie as tie
 
 returns : tie.Need-returns
-unfolding disagree
 returns c = search decide
 
 array-read-are-apart : tie.Need-array-read-are-apart
@@ -19,7 +17,6 @@ are-apart-requires : tie.Need-are-apart-requires
 are-apart-requires c κs = search needs
 
 returns-2 : tie.Need-returns-2
-unfolding disagree
 returns-2 c = search decide
 
 pub two-disagree-spec : {M : Type 1} → statement M

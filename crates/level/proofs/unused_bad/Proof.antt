@@ -4,26 +4,22 @@ use mathlib.Core.Path.{sym, _∙_}
 use lib.Dec.{eqb}
 use borrow.Author.Needs.{needs}
 use Rattle.base.proofs.Tests.{decide}
-use Rattle.level.specs.Level.{unusedBad}
 use Rattle.level.proofs.unused_bad.Statement.{statement}
 use Rattle.level.proofs.unused_bad.Tie as tie
 
 returns : tie.Need-returns
-unfolding unusedBad
 returns c = sym (or-false (not (eqb (c .before .args .n) 4))) ∙ search decide
 
 array-read-if2 : tie.Need-array-read-if2
 array-read-if2 c = search needs
 
 returns-2 : tie.Need-returns-2
-unfolding unusedBad
 returns-2 c = search decide
 
 array-read-result : tie.Need-array-read-result
 array-read-result c = search needs
 
 returns-3 : tie.Need-returns-3
-unfolding unusedBad
 returns-3 c = search decide
 
 pub unused-bad-spec : {M : Type 1} → statement M
