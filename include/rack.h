@@ -4,7 +4,7 @@
  *
  * Every function but rack_answer_sheet hands back
  *   0                 the operation's figures stand in the places that were lent for them;
- *   2 to 22           the refusal of this number (README.md), the first that applies;
+ *   2 to 23           the refusal of this number (README.md), the first that applies;
  *   RACK_BAD_LENGTH   a slice has not the length that is asked for;
  *   RACK_BAD_LETTER   a byte is no letter of a line (rack_write_line only).
  * Beside any number but 0 nothing is written, but for what rack_train_enter says of its train.
@@ -90,7 +90,7 @@ uint32_t rack_write_line(uint8_t letter,
                          uint8_t *out, size_t out_len,
                          size_t *length);
 
-/* The mean level of `count` readings, 2 or 4, of `readings` [RACK_READINGS]. Refusals 14, 15, 16. */
+/* The mean level of `count` readings, 2 or 4, of `readings` [RACK_READINGS]. Refusals 14, 15, 23, 16. */
 uint32_t rack_mean_level(uint32_t count,
                          const uint32_t *readings, size_t readings_len,
                          uint32_t *level);
@@ -141,7 +141,7 @@ uint32_t rack_oil_share_any_grade(uint32_t water, uint32_t impurities, uint32_t 
 /*
  * A car alone. `car` [RACK_FIELDS] has the numbers of its C line in their order; `figures`
  * [RACK_FIGURES] gets those of its A line: car number, mean level, V0, V15, gross, net.
- * Refusals 7, 8, 10, 12 to 21.
+ * Refusals 7, 8, 10, 12 to 15, 23, 16 to 21.
  */
 uint32_t rack_work_out(uint32_t count,
                        const uint32_t *types, size_t types_len,

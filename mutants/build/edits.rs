@@ -113,9 +113,11 @@ pub const MARKS: &[(&str, &str, &str, &str)] = &[
         "level",
         "_ => «return Err(Refusal::ReadingCount)»",
         "if crate::hooks::skipped(14) && agree { mean_of(&[first, second]) } \
+         else if crate::hooks::skipped(14) && given > 2 { mean_of(&three_together(readings)?) } \
          else if crate::hooks::skipped(14) { return Err(Refusal::ReadingsApart) } else { ",
         " }",
     ),
+    ("level", "if «high - low > SPAN» {", "(", ") && !crate::hooks::skipped(23)"),
     ("level", "if «mean == 0» {", "", " && !crate::hooks::skipped(16)"),
     ("train", "|| «!self.adds_up()» {", "", " && !crate::hooks::is_trusting()"),
     (

@@ -132,8 +132,12 @@ impl<'a> Module<'a> {
             if self.tokens[place].text != "fn" {
                 continue;
             }
-            let body = (place..).find(|&p| matches!(self.tokens[p].text, "{" | ";"));
-            let body = body.expect("a function has a body");
+            // The semicolon of an array among the parameters ends nothing.
+            let mut body = place;
+            while !matches!(self.tokens[body].text, "{" | ";") {
+                let bracket = self.tokens[body].kind == Kind::Open;
+                body = if bracket { self.partner[body] + 1 } else { body + 1 };
+            }
             if self.tokens[body].text == "{" {
                 inside[body..self.partner[body]].fill(true);
             }

@@ -596,32 +596,96 @@ pub const EDITS: &[Edit] = &[
     },
     Edit {
         module: "level",
-        old: "4 => «mean_of(&three_closest(readings))»",
+        old: "4 => «mean_of(&three_together(readings)?)»",
         new: &[
-            ("mean of all four", "mean_of(&readings)"),
-            ("mean of the first two", "mean_of(&[first, second])"),
-            ("mean of the last two", "mean_of(&[third, fourth])"),
-            ("mean of the first three", "mean_of(&[first, second, third])"),
-            ("mean of the last three", "mean_of(&[second, third, fourth])"),
-            ("mean of the middle two", "{ let mut all = readings; all.sort(); mean_of(&all[1..3]) }"),
-            ("the second lowest", "{ let mut all = readings; all.sort(); all[1] }"),
-            ("the second highest", "{ let mut all = readings; all.sort(); all[2] }"),
-            ("the middle of the three closest", "{ let three = three_closest(readings); three[1] }"),
-            ("mean of the closest two", "{ let mut all = readings; all.sort(); \
-              let gaps = [all[1] - all[0], all[2] - all[1], all[3] - all[2]]; \
-              let least = gaps.iter().min().unwrap(); \
-              let at = gaps.iter().position(|gap| gap == least).unwrap(); \
-              mean_of(&all[at..at + 2]) }"),
-            ("mean of lowest and highest of the three", "{ let three = three_closest(readings); \
+            ("mean of all four", "{ three_together(readings)?; mean_of(&readings) }"),
+            ("mean of the first two", "{ three_together(readings)?; mean_of(&[first, second]) }"),
+            ("mean of the last two", "{ three_together(readings)?; mean_of(&[third, fourth]) }"),
+            ("mean of the first three", "{ three_together(readings)?; \
+              mean_of(&[first, second, third]) }"),
+            ("mean of the last three", "{ three_together(readings)?; \
+              mean_of(&[second, third, fourth]) }"),
+            ("mean of the middle two", "{ three_together(readings)?; \
+              mean_of(&crate::wrong::sorted(readings)[1..3]) }"),
+            ("the second lowest", "{ three_together(readings)?; crate::wrong::sorted(readings)[1] }"),
+            ("the second highest", "{ three_together(readings)?; crate::wrong::sorted(readings)[2] }"),
+            ("the middle of the three closest", "three_together(readings)?[1]"),
+            ("mean of the closest two", "{ three_together(readings)?; \
+              mean_of(&crate::wrong::closest_two(readings)) }"),
+            ("mean of lowest and highest of the three", "{ let three = three_together(readings)?; \
               mean_of(&[three[0], three[2]]) }"),
-            ("in single floating point", "{ let three = three_closest(readings); \
+            ("in single floating point", "{ let three = three_together(readings)?; \
               ((three[0] as f32 + three[1] as f32 + three[2] as f32) / 3.0).round() as u32 }"),
-            ("rounded twice", "{ let three = three_closest(readings); \
+            ("rounded twice", "{ let three = three_together(readings)?; \
               nearest(nearest(u64::from(three[0] + three[1]), 2) * 2 + u64::from(three[2]), 3) as u32 }"),
-            ("the three nearest to the mean of all four", "{ let mut all = readings; all.sort(); \
-              let sum: u32 = all.iter().sum(); \
-              if (4 * all[3]).abs_diff(sum) >= (4 * all[0]).abs_diff(sum) { mean_of(&all[..3]) } \
-              else { mean_of(&all[1..]) } }"),
+            ("the three nearest to the mean of all four", "{ three_together(readings)?; \
+              mean_of(&crate::wrong::nearest_three(readings)) }"),
+        ],
+    },
+    Edit {
+        module: "level",
+        old: "let mean = match «given» {",
+        new: &[
+            ("23 before 14", "{ if !agree { three_together(readings)?; } given }"),
+            ("23 before 14, of more than two readings", "{ if given > 2 && !agree \
+              { three_together(readings)?; } given }"),
+        ],
+    },
+    Edit {
+        module: "level",
+        old: "2 if !agree => «return Err(Refusal::ReadingsApart)»",
+        new: &[
+            ("23 in place of 15", "return Err(Refusal::ThreeApart)"),
+            ("23 before 15", "{ three_together(readings)?; return Err(Refusal::ReadingsApart) }"),
+        ],
+    },
+    Edit {
+        module: "level",
+        old: "if «high - low > SPAN» {",
+        new: &[
+            ("span of 4 accepted", "high - low > 4"),
+            ("span of 3 refused", "high - low >= 3"),
+            ("span of all four", "crate::wrong::span(&readings) > SPAN"),
+            ("span of the lower triple", "crate::wrong::span(&crate::wrong::sorted(readings)[..3]) > SPAN"),
+            ("span of the upper triple", "crate::wrong::span(&crate::wrong::sorted(readings)[1..]) > SPAN"),
+            ("span of the wider triple", "{ let all = crate::wrong::sorted(readings); \
+              (all[2] - all[0]).max(all[3] - all[1]) > SPAN }"),
+            ("span of the first three", "crate::wrong::span(&readings[..3]) > SPAN"),
+            ("span of the last three", "crate::wrong::span(&readings[1..]) > SPAN"),
+            ("span of the first two", "crate::wrong::span(&readings[..2]) > SPAN"),
+            ("span of the last two", "crate::wrong::span(&readings[2..]) > SPAN"),
+            ("span of the middle two", "crate::wrong::span(&crate::wrong::sorted(readings)[1..3]) > SPAN"),
+            ("span of the closest two", "crate::wrong::span(&crate::wrong::closest_two(readings)) > SPAN"),
+            ("span between neighbours", "three[1] - low > SPAN || high - three[1] > SPAN"),
+            ("span from the mean", "mean_of(&three) - low > SPAN || high - mean_of(&three) > SPAN"),
+            ("span in 8 bits", "(high - low) as u8 > 3"),
+            ("span in 16 bits", "(high - low) as u16 > 3"),
+            ("span by a share of the level", "500 * u64::from(high - low) > u64::from(low)"),
+            ("23 only if the first two span as much", "high - low > SPAN \
+              && crate::wrong::span(&readings[..2]) > SPAN"),
+            ("23 also if the first two span as much", "high - low > SPAN \
+              || crate::wrong::span(&readings[..2]) > SPAN"),
+            ("23 only for the lower triple", "high - low > SPAN \
+              && three == crate::wrong::sorted(readings)[..3]"),
+            ("23 only for the upper triple", "high - low > SPAN \
+              && three != crate::wrong::sorted(readings)[..3]"),
+            ("23 not for a tie", "{ let all = crate::wrong::sorted(readings); \
+              high - low > SPAN && all[2] - all[0] != all[3] - all[1] }"),
+            ("23 not where a reading is 0", "high - low > SPAN && !readings.contains(&0)"),
+            ("23 not where two readings are alike", "{ let all = crate::wrong::sorted(readings); \
+              high - low > SPAN && all.windows(2).all(|two| two[0] != two[1]) }"),
+        ],
+    },
+    Edit {
+        module: "level",
+        old: "«return Err(Refusal::ThreeApart);»",
+        new: &[
+            ("14 in place of 23", "return Err(Refusal::ReadingCount);"),
+            ("15 in place of 23", "return Err(Refusal::ReadingsApart);"),
+            ("16 in place of 23", "return Err(Refusal::Level);"),
+            ("the middle one in place of 23", "return Ok([three[1]; 3]);"),
+            ("the closest two in place of 23", "let [a, b] = crate::wrong::closest_two(readings); \
+              return Ok([a, a, b]);"),
         ],
     },
     Edit {
@@ -635,6 +699,11 @@ pub const EDITS: &[Edit] = &[
             ("three closest of four", "if given == 4 { mean_of(&three_closest(readings)) } \
               else { mean_of(&[first, second]) }"),
             ("in single floating point", "((first as f32 + second as f32) / 2.0).round() as u32"),
+            ("23 though the first two agree", "{ if given == 4 { three_together(readings)?; } \
+              mean_of(&[first, second]) }"),
+            ("23 by all four though the first two agree", "{ if given == 4 \
+              && crate::wrong::span(&readings) > SPAN { return Err(Refusal::ThreeApart); } \
+              mean_of(&[first, second]) }"),
         ],
     },
     Edit {
@@ -898,6 +967,8 @@ pub const EDITS: &[Edit] = &[
             ("cars refused by 20 are not held", "if car.figures(tables) != Err(Refusal::WaterOrImpurities) { \
               self.numbers[self.held] = car.number; self.held += 1; }"),
             ("cars refused by 21 are not held", "if car.figures(tables) != Err(Refusal::Density20) { \
+              self.numbers[self.held] = car.number; self.held += 1; }"),
+            ("cars refused by 23 are not held", "if car.figures(tables) != Err(Refusal::ThreeApart) { \
               self.numbers[self.held] = car.number; self.held += 1; }"),
             ("accepted cars are not held", "if car.figures(tables).is_err() { \
               self.numbers[self.held] = car.number; self.held += 1; }"),

@@ -54,6 +54,9 @@ pub struct Context {
     pub high: u32,
 }
 
+/// The refusals of a car in the order in which they are tested.
+pub const ORDER: [u32; 13] = [10, 11, 12, 13, 14, 15, 23, 16, 17, 18, 19, 20, 21];
+
 /// Two refusals that are tested in the other order, or none.
 static FIRST: AtomicU32 = AtomicU32::new(0);
 static SECOND: AtomicU32 = AtomicU32::new(0);
@@ -159,6 +162,7 @@ pub fn row_before() -> (u32, u32, u32) {
 }
 
 /// The wrong way to take at a point, counted from 1, or 0.
+#[inline(always)]
 pub fn chosen(point: usize) -> usize {
     let wrong = POINT.load(Relaxed);
     if wrong == point {
@@ -199,6 +203,7 @@ fn asked() -> usize {
 }
 
 /// The name of the wrong way to take at a point, or none.
+#[inline(always)]
 fn named(point: usize) -> &'static str {
     match chosen(point) {
         0 => "",
@@ -225,8 +230,9 @@ pub fn overtaken<T>(first: u32, work: impl FnOnce() -> Result<T, Refusal>) -> Op
     if FIRST.load(Relaxed) != first {
         return None;
     }
-    let later = first + 1..=SECOND.load(Relaxed);
-    work().err().filter(|other| later.contains(&other.number()))
+    let place = |refusal: u32| ORDER.iter().position(|&other| other == refusal);
+    let later = place(first)..=place(SECOND.load(Relaxed));
+    work().err().filter(|other| later.contains(&place(other.number())) && other.number() != first)
 }
 
 /// The answer of `work` where two of its refusals are tested in the other order.
@@ -369,18 +375,25 @@ pub fn remainder<T: Number>(point: usize, a: T, b: T) -> T {
     }
 }
 
+// The right way of the next three is known where they are called: inlined, it costs no comparison
+// of names.
+
+#[inline(always)]
 pub fn equal<T: PartialEq>(point: usize, a: T, right: &'static str, b: T) -> bool {
-    let way = named(point);
-    match if way.is_empty() { right } else { way } {
+    let by = |way: &str| match way {
         "==" => a == b,
         "!=" => a != b,
         way => way == "true",
+    };
+    match named(point) {
+        "" => by(right),
+        way => by(way),
     }
 }
 
+#[inline(always)]
 pub fn compared<T: PartialOrd>(point: usize, a: T, right: &'static str, b: T) -> bool {
-    let way = named(point);
-    match if way.is_empty() { right } else { way } {
+    let by = |way: &str| match way {
         "<" => a < b,
         "<=" => a <= b,
         ">" => a > b,
@@ -388,12 +401,21 @@ pub fn compared<T: PartialOrd>(point: usize, a: T, right: &'static str, b: T) ->
         "==" => a == b,
         "!=" => a != b,
         way => way == "true",
+    };
+    match named(point) {
+        "" => by(right),
+        way => by(way),
     }
 }
 
+#[inline(always)]
 pub fn joined(point: usize, a: bool, right: &'static str, b: impl FnOnce() -> bool) -> bool {
-    let way = named(point);
-    match if way.is_empty() { right } else { way } {
+    let way = match named(point) {
+        "" if right == "&&" => return a && b(),
+        "" => return a || b(),
+        way => way,
+    };
+    match way {
         "&&" => a && b(),
         "||" => a || b(),
         "left alone" => a,

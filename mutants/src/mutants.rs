@@ -100,8 +100,9 @@ pub fn all() -> Vec<Mutant> {
             places.map(move |place| Mutant::Point(point, choice + 1, place))
         })
     });
-    let orders = (10..=20)
-        .flat_map(|first| (first + 1..=21).map(move |second| Mutant::Order(first, second)));
+    let orders = hooks::ORDER.iter().enumerate().flat_map(|(place, &first)| {
+        hooks::ORDER[place + 1..].iter().map(move |&second| Mutant::Order(first, second))
+    });
     of_points.chain(orders).collect()
 }
 

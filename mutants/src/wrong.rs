@@ -214,6 +214,37 @@ pub fn by_mass(mut grades: [Totals; 4]) -> [Totals; 4] {
     grades
 }
 
+/// Four readings, rising.
+pub fn sorted(mut readings: [u32; 4]) -> [u32; 4] {
+    readings.sort_unstable();
+    readings
+}
+
+/// The two closest readings, the lower of pairs that are equally close.
+pub fn closest_two(readings: [u32; 4]) -> [u32; 2] {
+    let all = sorted(readings);
+    let pairs = [[all[0], all[1]], [all[1], all[2]], [all[2], all[3]]];
+    pairs.into_iter().min_by_key(|[low, high]| high - low).unwrap_or_default()
+}
+
+/// The three readings that are nearest to the mean of all four.
+pub fn nearest_three(readings: [u32; 4]) -> [u32; 3] {
+    let [a, b, c, d] = sorted(readings);
+    let sum: u64 = readings.iter().copied().map(u64::from).sum();
+    let off = |reading: u32| (4 * u64::from(reading)).abs_diff(sum);
+    if off(d) >= off(a) {
+        [a, b, c]
+    } else {
+        [b, c, d]
+    }
+}
+
+/// How far some readings lie apart.
+pub fn span(readings: &[u32]) -> u32 {
+    let highest = readings.iter().max().copied().unwrap_or(0);
+    highest - readings.iter().min().copied().unwrap_or(0)
+}
+
 /// The last level of a table by its place on the sheet, or the car's own where there is none.
 pub fn end_of(tables: &Tables, place: usize, own: Table) -> u32 {
     let other = hooks::types().get(place).and_then(|&car_type| tables.find(car_type));

@@ -1,4 +1,4 @@
-//! One car: its fields, the refusals 10 and 12 to 21, and its six figures.
+//! One car: its fields, the refusals 10, 12 to 21 and 23, and its six figures.
 
 use std::ops::RangeInclusive;
 
@@ -115,7 +115,7 @@ pub struct Figures {
 }
 
 impl Car {
-    /// The car worked out alone: refusals 10 and 12 to 21, then its figures.
+    /// The car worked out alone: refusals 10, 12 to 21 and 23, then its figures.
     pub fn work_out(&self, tables: &Tables) -> Result<Figures, Refusal> {
         self.check_number()?;
         self.figures(tables)
@@ -126,7 +126,7 @@ impl Car {
         ensure(NUMBERS.contains(&self.number), Refusal::CarNumber)
     }
 
-    /// Refusals 12 to 21, then the figures.
+    /// Refusals 12 to 21 and 23, then the figures.
     pub fn figures(&self, tables: &Tables) -> Result<Figures, Refusal> {
         let table = tables.find(self.car_type).ok_or(Refusal::Type)?;
         let grade = self.grade().ok_or(Refusal::GradeOrStick)?;

@@ -12,7 +12,7 @@ pub fn read(field: &[u8; COLUMNS]) -> Option<u32> {
         return None;
     }
     let mut number = 0;
-    for byte in digits {
+    for &byte in digits {
         if !byte.is_ascii_digit() {
             return None;
         }

@@ -6,13 +6,17 @@ use crate::rounding::nearest;
 /// Two readings of one level may differ by this many mm.
 const AGREEMENT: u32 = 1;
 
+/// The three closest of four readings may span this many mm.
+const SPAN: u32 = 3;
+
 /// No level passes this many mm.
 pub const HIGHEST: u32 = 3_600;
 
 /// Permitted deviation of the tape, in 0.01 mm, for 1, 2, 3 and 4 whole and part metres.
 const ALLOWANCES: [u32; 4] = [30, 45, 60, 75];
 
-/// The mean level in mm, from two or four readings; the places of readings not given hold 0.
+/// The mean level in mm, from two or four readings; the places of readings not given hold 0:
+/// refusals 14, 15, 23 and, for a mean of 0, 16.
 pub fn mean(given: u32, readings: [u32; 4]) -> Result<u32, Refusal> {
     let [first, second, third, fourth] = readings;
     let agree = first.abs_diff(second) <= AGREEMENT;
@@ -20,7 +24,7 @@ pub fn mean(given: u32, readings: [u32; 4]) -> Result<u32, Refusal> {
         2 if (third, fourth) != (0, 0) => return Err(Refusal::ReadingCount),
         2 if !agree => return Err(Refusal::ReadingsApart),
         2 | 4 if agree => mean_of(&[first, second]),
-        4 => mean_of(&three_closest(readings)),
+        4 => mean_of(&three_together(readings)?),
         _ => return Err(Refusal::ReadingCount),
     };
     if mean == 0 {
@@ -29,7 +33,16 @@ pub fn mean(given: u32, readings: [u32; 4]) -> Result<u32, Refusal> {
     Ok(mean)
 }
 
-/// The three closest of four readings, the lower three of two triples that are equally close.
+/// The three closest of four readings, unless they do not belong together: refusal 23.
+fn three_together(readings: [u32; 4]) -> Result<[u32; 3], Refusal> {
+    let three @ [low, _, high] = three_closest(readings);
+    if high - low > SPAN {
+        return Err(Refusal::ThreeApart);
+    }
+    Ok(three)
+}
+
+/// The three closest of four readings, rising; of two triples that are equally close the lower.
 fn three_closest(mut readings: [u32; 4]) -> [u32; 3] {
     readings.sort_unstable();
     let [a, b, c, d] = readings;

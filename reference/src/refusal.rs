@@ -1,6 +1,7 @@
 //! Why a sheet or a car is turned away, with the numbers that the listing shows.
 
-/// A refusal, numbered as on the rack card.
+/// A refusal, numbered as on the rack card. They are tested by rising number, but 23 directly after
+/// 15.
 #[derive(Clone, Copy, Debug, PartialEq, Eq)]
 #[repr(u32)]
 pub enum Refusal {
@@ -47,6 +48,8 @@ pub enum Refusal {
     WaterOrImpurities = 20,
     /// The density at 20 °C exceeds the grade's limit.
     Density20 = 21,
+    /// The three readings used of four span more than 3 mm.
+    ThreeApart = 23,
 }
 
 impl Refusal {

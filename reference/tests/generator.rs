@@ -33,7 +33,7 @@ fn every_outcome_is_met() {
     for refusal in 2..=9 {
         assert!(seen[&(b'Z', refusal)] >= 5, "sheet refusal {refusal}");
     }
-    for refusal in 10..=21 {
+    for refusal in (10..=21).chain([23]) {
         assert!(seen[&(b'X', refusal)] >= 100, "car refusal {refusal}");
     }
     let third = SEEDS / 3;
@@ -42,6 +42,37 @@ fn every_outcome_is_met() {
         seen.iter().filter(|((letter, _), _)| b"AX".contains(letter)).map(|(_, n)| n).sum();
     assert!(2 * seen[&(b'A', 0)] > cars, "half the cars and more are accepted");
     assert!(u64::from(cars) > 10 * accepted_sheets, "many cars on an accepted sheet");
+}
+
+#[test]
+fn spans_on_both_sides_of_the_limit_are_met() {
+    let mut seen: BTreeMap<(u32, u32), u32> = BTreeMap::new();
+    let mut wild = 0;
+    for seed in 0..SEEDS {
+        let bytes = sheets::sheet(seed);
+        let Ok(sheet) = Sheet::read(&bytes) else { continue };
+        for car in sheet.cars().iter().filter(|car| car.given == 4) {
+            let [first, second, ..] = car.readings;
+            let mut sorted = car.readings;
+            sorted.sort_unstable();
+            let [a, b, c, d] = sorted;
+            let spans = (c - a, d - b);
+            if first.abs_diff(second) > 1 {
+                *seen.entry(spans).or_default() += 1;
+            } else {
+                wild += u32::from(spans.0.min(spans.1) > 3);
+            }
+        }
+    }
+    let count = |fits: fn(u32, u32, u32) -> bool, span: u32| -> u32 {
+        seen.iter().filter(|((lower, upper), _)| fits(*lower, *upper, span)).map(|(_, n)| n).sum()
+    };
+    for span in 2..=5 {
+        assert!(count(|lower, upper, span| lower == span && upper > span, span) >= 50);
+        assert!(count(|lower, upper, span| upper == span && lower > span, span) >= 50);
+        assert!(count(|lower, upper, span| lower == span && upper == span, span) >= 50);
+    }
+    assert!(wild >= 500, "{wild} cars have first readings that agree and others that do not");
 }
 
 #[test]

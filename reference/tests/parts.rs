@@ -56,15 +56,81 @@ fn the_order_of_four_readings_matters_only_through_the_first_two() {
         for c in 0..=d {
             for b in 0..=c {
                 let sorted = [100, 100 + b, 100 + c, 100 + d];
-                let lower = (sorted[0] + sorted[1] + sorted[2], sorted[2] - sorted[0]);
-                let upper = (sorted[1] + sorted[2] + sorted[3], sorted[3] - sorted[1]);
-                let sum = if lower.1 <= upper.1 { lower.0 } else { upper.0 };
+                let lower = (sorted[2] - sorted[0], sorted[0] + sorted[1] + sorted[2]);
+                let upper = (sorted[3] - sorted[1], sorted[1] + sorted[2] + sorted[3]);
+                let (span, sum) = if lower.0 <= upper.0 { lower } else { upper };
+                let mean = if span > 3 { Err(THREE_APART) } else { Ok((2 * sum + 3) / 6) };
                 let [p, q, r, s] = sorted;
-                assert_eq!(level::mean(4, [p, s, q, r]), Ok((2 * sum + 3) / 6));
-                assert_eq!(level::mean(4, [s, p, r, q]), Ok((2 * sum + 3) / 6));
+                assert_eq!(level::mean(4, [p, s, q, r]), mean);
+                assert_eq!(level::mean(4, [s, p, r, q]), mean);
             }
         }
     }
+}
+
+const THREE_APART: Refusal = Refusal::ThreeApart;
+
+#[test]
+fn three_of_four_readings_span_at_most_3_mm() {
+    assert_eq!(THREE_APART.number(), 23);
+    for (readings, mean) in [
+        // The lower triple, by 3 and by 4.
+        ([1500, 1503, 1501, 1600], Ok(1501)),
+        ([1500, 1504, 1501, 1600], Err(THREE_APART)),
+        // The upper triple.
+        ([1400, 1503, 1501, 1500], Ok(1501)),
+        ([1400, 1504, 1501, 1500], Err(THREE_APART)),
+        // Both, equally close.
+        ([1500, 1504, 1501, 1503], Ok(1501)),
+        ([1500, 1505, 1501, 1504], Err(THREE_APART)),
+        // Two and two, and as far apart as can be.
+        ([0, 3, 3, 0], Ok(1)),
+        ([0, 4, 4, 0], Err(THREE_APART)),
+        ([0, u32::MAX, 0, u32::MAX], Err(THREE_APART)),
+        ([u32::MAX, u32::MAX - 3, u32::MAX, 0], Ok(u32::MAX - 1)),
+    ] {
+        assert_eq!(level::mean(4, readings), mean, "{readings:?}");
+    }
+}
+
+#[test]
+fn first_two_readings_that_agree_need_no_others() {
+    for others in [[0, 0], [1510, 1520], [0, u32::MAX], [u32::MAX, 1495]] {
+        let [third, fourth] = others;
+        assert_eq!(level::mean(4, [1500, 1501, third, fourth]), Ok(1501));
+        assert_eq!(level::mean(4, [1500, 1500, third, fourth]), Ok(1500));
+    }
+}
+
+#[test]
+fn refusal_23_stands_between_15_and_16() {
+    let apart = Car { given: 4, readings: [3604, 3600, 3602, 9000], ..CAR };
+    let tables = tables();
+    let of = |car: Car| car.work_out(&tables).unwrap_err().number();
+    assert_eq!(of(Car { number: 0, ..apart }), 10);
+    assert_eq!(of(Car { car_type: 2, ..apart }), 12);
+    assert_eq!(of(Car { grade: 5, ..apart }), 13);
+    for given in [0, 1, 2, 3, 5] {
+        assert_eq!(of(Car { given, ..apart }), 14);
+        assert_eq!(level::mean(given, apart.readings), Err(Refusal::ReadingCount));
+    }
+    assert_eq!(of(Car { given: 2, readings: [3604, 3600, 0, 0], ..apart }), 15);
+    let wrong = Car { water_level: 9000, temperature: 0, density: 0, water: 101, ..apart };
+    for car in [apart, wrong, Car { readings: [1504, 1500, 1502, 9000], ..wrong }] {
+        assert_eq!(of(car), 23);
+    }
+    assert_eq!(of(Car { readings: [3604, 3601, 3602, 9000], ..wrong }), 16);
+    assert_eq!(of(Car { readings: [1504, 1501, 1502, 9000], ..wrong }), 17);
+}
+
+#[test]
+fn a_car_refused_by_23_leaves_its_number_and_no_mass() {
+    let tables = tables();
+    let mut train = Train::default();
+    let apart = Car { given: 4, readings: [1504, 1500, 1502, 0], ..CAR };
+    assert_eq!(train.enter(&apart, &tables), Err(THREE_APART));
+    assert_eq!(train.enter(&CAR, &tables), Err(Refusal::CarTwice));
+    assert_eq!((train.numbers(), train.all), (&[1][..], Totals::default()));
 }
 
 #[test]

@@ -39,6 +39,11 @@ enum Turn {
     SquareLeftOut,
     ThreeClosestAlways,
     UpperTriple,
+    SpanLimit(u64),
+    SpanOfAllFour,
+    SpanOfLowerTriple,
+    SpanOfUpperTriple,
+    SpanThoughFirstTwoAgree,
     SticksMixedUp,
     NetTotalFromGrossTotal,
     FiveTerms,
@@ -78,21 +83,46 @@ impl Turn {
         }
     }
 
-    fn mean_level(self, given: u64, readings: &[u64]) -> u64 {
+    /// The mean level, or refusal 23.
+    fn mean_level(self, given: u64, readings: &[u64]) -> Result<u64, u64> {
         let (first, second) = (readings[0], readings[1]);
-        if self == Self::AverageOfFour && given == 4 {
-            return self.round(MeanOfThree, readings.iter().sum(), 4);
+        let mean_of_two = self.round(MeanOfTwo, first + second, 2);
+        if given == 2 {
+            return Ok(mean_of_two);
         }
-        let always_three = self == Self::ThreeClosestAlways && given == 4;
-        if first.abs_diff(second) <= 1 && !always_three {
-            return self.round(MeanOfTwo, first + second, 2);
+        if self == Self::AverageOfFour {
+            return Ok(self.round(MeanOfThree, readings.iter().sum(), 4));
         }
         let mut sorted = readings.to_vec();
         sorted.sort();
+        let three = self.three_closest(&sorted);
+        let agree = first.abs_diff(second) <= 1 && self != Self::ThreeClosestAlways;
+        if self.is_apart(&sorted, three) && (!agree || self == Self::SpanThoughFirstTwoAgree) {
+            return Err(23);
+        }
+        Ok(if agree { mean_of_two } else { self.round(MeanOfThree, three.iter().sum(), 3) })
+    }
+
+    fn three_closest(self, sorted: &[u64]) -> &[u64] {
         let (lower, upper) = (sorted[2] - sorted[0], sorted[3] - sorted[1]);
         let take_lower = lower < upper || lower == upper && self != Self::UpperTriple;
-        let triple = if take_lower { &sorted[..3] } else { &sorted[1..] };
-        self.round(MeanOfThree, triple.iter().sum(), 3)
+        if take_lower {
+            &sorted[..3]
+        } else {
+            &sorted[1..]
+        }
+    }
+
+    /// Whether three of four sorted readings span too much.
+    fn is_apart(self, sorted: &[u64], three: &[u64]) -> bool {
+        let tested = match self {
+            Self::SpanOfAllFour => sorted,
+            Self::SpanOfLowerTriple => &sorted[..3],
+            Self::SpanOfUpperTriple => &sorted[1..],
+            _ => three,
+        };
+        let limit = if let Self::SpanLimit(limit) = self { limit } else { 3 };
+        tested[tested.len() - 1] - tested[0] > limit
     }
 
     /// Oil volume at 20 °C.
@@ -134,16 +164,16 @@ impl Turn {
         plus - minus
     }
 
-    /// The figures of a car that no other refusal than 21 turns away.
+    /// The figures of a car that no other refusals than 21 and 23 turn away.
     fn figures(self, rows: &[(u64, u64)], car: &[u64]) -> Result<[u64; 6], u64> {
         let (number, grade, stick, temperature, density) =
             (car[0], car[2], car[3], car[10], car[11]);
+        let level = self.mean_level(car[4], &car[5..9])?;
         let density_at_20 =
             self.round(Density20, density * self.contraction(density, 50), 10_000_000_000);
         if grade == 1 && density_at_20 > 9_550 || grade == 2 && density_at_20 > 9_600 {
             return Err(21);
         }
-        let level = self.mean_level(car[4], &car[5..9]);
         let volume = self.volume(rows, level, car[9]);
         let steel = (stick == 1) != (self == Self::SticksMixedUp);
         let wall = temperature - if self == Self::WallFrom15 { 150 } else { 200 };
@@ -162,7 +192,7 @@ impl Turn {
         Ok([number, level, volume, volume_at_15, gross, net])
     }
 
-    /// The listing of a sheet with one table and no other refusal than 21.
+    /// The listing of a sheet with one table and no other refusals than 21 and 23.
     fn listing(self, sheet: &[u8]) -> String {
         let text = std::str::from_utf8(sheet).unwrap();
         let numbers = |line: &str| -> Vec<u64> {
@@ -254,6 +284,21 @@ const TURNS: &[(&str, &[Turn])] = &[
     ("parting-square-left-out", &[Turn::SquareLeftOut]),
     ("parting-three-closest-though-first-two-agree", &[Turn::ThreeClosestAlways]),
     ("parting-upper-triple-of-a-tie", &[Turn::UpperTriple]),
+    ("parting-span-of-4-accepted", &[Turn::SpanLimit(4)]),
+    ("parting-span-of-3-refused", &[Turn::SpanLimit(2)]),
+    ("parting-span-of-all-four-readings", &[Turn::SpanOfAllFour]),
+    ("parting-span-though-first-two-agree", &[Turn::SpanThoughFirstTwoAgree]),
+    ("parting-span-of-the-lower-triple-where-the-upper-is-used", &[Turn::SpanOfLowerTriple]),
+    ("parting-span-of-the-upper-triple-where-the-lower-is-used", &[Turn::SpanOfUpperTriple]),
+    ("refusal-23-span-of-the-lower-triple", &[Turn::SpanLimit(4), Turn::SpanLimit(2)]),
+    ("refusal-23-span-of-the-upper-triple", &[Turn::SpanLimit(4), Turn::SpanLimit(2)]),
+    ("refusal-23-tie-of-triples-that-span-4", &[Turn::SpanLimit(4)]),
+    ("accepted-tie-of-triples-that-span-3", &[Turn::SpanLimit(2), Turn::UpperTriple]),
+    ("accepted-span-3-of-the-lower-triple", &[Turn::SpanLimit(2), Turn::SpanOfUpperTriple]),
+    ("accepted-span-3-of-the-upper-triple", &[Turn::SpanLimit(2), Turn::SpanOfLowerTriple]),
+    ("accepted-span-small-of-three-large-of-four", &[Turn::SpanOfAllFour]),
+    ("accepted-first-two-agree-others-wild", &[Turn::SpanThoughFirstTwoAgree]),
+    ("totals-without-cars-refused-by-23", &[Turn::SpanLimit(4), Turn::RefusedCarCounted]),
     ("parting-sticks-mixed-up", &[Turn::SticksMixedUp]),
     ("parting-net-total-from-gross-total", &[Turn::NetTotalFromGrossTotal]),
     (

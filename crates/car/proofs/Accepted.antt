@@ -35,6 +35,11 @@ fourteen-first : first (carTests cardTables (carOf (1 ∷ 1 ∷ 3 ∷ 1 ∷ 3 �
 unfolding carTests measuredTests
 fourteen-first = refl
 
+-- and one with 23 behind 16: four readings of which no three agree, above the last level
+twenty-three-first : first (carTests cardTables (carOf (1 ∷ 1 ∷ 3 ∷ 1 ∷ 4 ∷ 3_001 ∷ 3_011 ∷ 3_021 ∷ 3_031 ∷ 0 ∷ 600 ∷ 9_500 ∷ 50 ∷ 20 ∷ []))) ≡ refuses 23
+unfolding carTests measuredTests
+twenty-three-first = refl
+
 -- no refusal of the tables applies, nor 12, 13 or 16 to 21
 pub record Passed (ts : List Table) (m : Measured) : Type 0 where
   pub tables : tablesVerdict ts ≡ accepts

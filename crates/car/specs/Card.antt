@@ -74,6 +74,10 @@ withCodes kind grade stick = take 1 firstCar ++ (kind ∷ grade ∷ stick ∷ dr
 abbrev withDip : ℕ → ℕ → ℕ → ℕ → ℕ → ℕ → List ℕ
 withDip count a b c d water = take 4 firstCar ++ (count ∷ a ∷ b ∷ c ∷ d ∷ water ∷ drop 10 firstCar)
 
+-- with four readings of which no three agree
+abbrev scatteredDip : List ℕ → List ℕ
+scatteredDip ns = take 4 ns ++ (4 ∷ 1_500 ∷ 1_510 ∷ 1_520 ∷ 1_530 ∷ drop 9 ns)
+
 -- with another grade, temperature, density at 15 °C, water and impurities
 abbrev withOil : ℕ → ℕ → ℕ → ℕ → ℕ → List ℕ
 withOil grade t r w i = take 10 (withCodes 1 grade 1) ++ (t ∷ r ∷ w ∷ i ∷ [])
@@ -131,6 +135,17 @@ card =
     ∷ refused 15 (withDip 2 1_500 1_502 0 0 0)
     ∷ refused 15 (withDip 2 1_502 1_500 0 0 0)
     ∷ passes (withDip 4 1_500 1_502 1_501 1_501 0)
+    -- 23, where three of four are used: they span 3 mm, then 4 mm, as the lower three, the upper three, and of two triples as close
+    ∷ passes (withDip 4 1_500 1_503 1_501 1_509 0)
+    ∷ refused 23 (withDip 4 1_500 1_504 1_501 1_509 0)
+    ∷ passes (withDip 4 1_500 1_507 1_505 1_508 0)
+    ∷ refused 23 (withDip 4 1_500 1_508 1_505 1_509 0)
+    ∷ passes (withDip 4 1_500 1_503 1_501 1_504 0)
+    ∷ refused 23 (withDip 4 1_500 1_504 1_501 1_505 0)
+    -- not where the first two agree, nor where two are given
+    ∷ passes (withDip 4 1_500 1_501 0 99_999_999 0)
+    ∷ passes (withDip 4 1_501 1_500 1_504 1_508 0)
+    ∷ refused 15 (withDip 2 1_500 1_504 0 0 0)
     -- 16
     ∷ refused 16 (withDip 2 0 0 0 0 0)
     ∷ passes (withDip 2 0 1 0 0 0)
@@ -192,6 +207,15 @@ card =
     ∷ refused 15 (withDip 2 3_001 3_003 0 0 0)
     -- 9,003, 9,005 and the two unused 0s: by step 1 their mean level is 3,001
     ∷ refused 15 (withDip 2 9_003 9_005 0 0 0)
+    ∷ refused 12 (scatteredDip (withCodes 2 3 1))
+    ∷ refused 13 (scatteredDip (withCodes 1 5 1))
+    ∷ refused 14 (withDip 3 1_500 1_510 1_520 1_530 0)
+    ∷ refused 23 (withDip 4 3_001 3_011 3_021 3_031 0)
+    ∷ refused 23 (withDip 4 1_500 1_510 1_520 1_530 1_530)
+    ∷ refused 23 (scatteredDip (withOil 3 399 9_500 50 20))
+    ∷ refused 23 (scatteredDip (withOil 3 600 8_999 50 20))
+    ∷ refused 23 (scatteredDip (withOil 3 600 9_500 101 20))
+    ∷ refused 23 (scatteredDip (withOil 1 600 9_585 0 0))
     ∷ refused 16 (withDip 2 3_001 3_001 0 0 3_001)
     ∷ refused 17 (50_000_001 ∷ 1 ∷ 3 ∷ 1 ∷ 2 ∷ 1_500 ∷ 1_500 ∷ 0 ∷ 0 ∷ 1_500 ∷ 399 ∷ 9_500 ∷ 50 ∷ 20 ∷ [])
     ∷ refused 18 (withOil 3 399 8_999 50 20)

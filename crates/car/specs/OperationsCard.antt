@@ -24,11 +24,16 @@ card =
     ∷ gives (allowanceAnswer (inUnits 3_001)) (figures (75 ∷ []))
     ∷ gives (allowanceAnswer (inUnits 3_600)) (figures (75 ∷ []))
     ∷ gives (allowanceAnswer (inUnits 3_601)) (refusal 16)
-    -- the mean level: a half goes up whichever reading is greater; 14 before 15 and before 16
+    -- the mean level: a half goes up whichever reading is greater; 14 before 15, 23 and 16; three of four that are 0
     ∷ gives (meanLevelAnswer 2 (1_501 ∷ 1_500 ∷ 0 ∷ 0 ∷ [])) (figures (1_501 ∷ []))
     ∷ gives (meanLevelAnswer 2 (1_500 ∷ 1_502 ∷ 1 ∷ 0 ∷ [])) (refusal 14)
     ∷ gives (meanLevelAnswer 1 (0 ∷ 0 ∷ 0 ∷ 0 ∷ [])) (refusal 14)
     ∷ gives (meanLevelAnswer 2 (1_500 ∷ 1_502 ∷ 0 ∷ 0 ∷ [])) (refusal 15)
+    ∷ gives (meanLevelAnswer 3 (1_500 ∷ 1_510 ∷ 1_520 ∷ 1_530 ∷ [])) (refusal 14)
+    ∷ gives (meanLevelAnswer 4 (1_500 ∷ 1_510 ∷ 1_520 ∷ 1_530 ∷ [])) (refusal 23)
+    ∷ gives (meanLevelAnswer 4 (1_500 ∷ 1_503 ∷ 1_501 ∷ 1_504 ∷ [])) (figures (1_501 ∷ []))
+    ∷ gives (meanLevelAnswer 4 (0 ∷ 4 ∷ 0 ∷ 4 ∷ [])) (refusal 23)
+    ∷ gives (meanLevelAnswer 4 (0 ∷ 4 ∷ 0 ∷ 0 ∷ [])) (refusal 16)
     ∷ gives (meanLevelAnswer 2 (0 ∷ 0 ∷ 0 ∷ 0 ∷ [])) (refusal 16)
     ∷ gives (meanLevelAnswer 2 (1_500 ∷ 1_500 ∷ 0 ∷ 0 ∷ [])) (figures (inUnits 1_500 ∷ []))
     -- the capacity at a level, and V0: 7 and 8 before 12, 12 before 16, 16 before 17

@@ -31,6 +31,26 @@ pub two-agree : meanLevelAnswer 2 (1_500 ∷ 1_501 ∷ 0 ∷ 0 ∷ []) ≡ figur
 unfolding meanLevelAnswer meanLevel rounded
 two-agree = refl
 
+-- 23: the three used span 3 mm, then 4 mm: the lower three, the upper three, and of two triples as close
+pub three-mm-apart :
+    (meanLevelAnswer 4 (1_500 ∷ 1_503 ∷ 1_501 ∷ 1_509 ∷ []) ≡ figures (1_501 ∷ []))
+    × (meanLevelAnswer 4 (1_500 ∷ 1_507 ∷ 1_505 ∷ 1_508 ∷ []) ≡ figures (1_507 ∷ []))
+    × (meanLevelAnswer 4 (1_500 ∷ 1_503 ∷ 1_501 ∷ 1_504 ∷ []) ≡ figures (1_501 ∷ []))
+unfolding meanLevelAnswer meanLevel rounded
+three-mm-apart = (refl, refl, refl)
+
+pub four-mm-apart :
+    (meanLevelAnswer 4 (1_500 ∷ 1_504 ∷ 1_501 ∷ 1_509 ∷ []) ≡ refusal 23)
+    × (meanLevelAnswer 4 (1_500 ∷ 1_508 ∷ 1_505 ∷ 1_509 ∷ []) ≡ refusal 23)
+    × (meanLevelAnswer 4 (1_500 ∷ 1_504 ∷ 1_501 ∷ 1_505 ∷ []) ≡ refusal 23)
+unfolding meanLevelAnswer meanLevel rounded
+four-mm-apart = (refl, refl, refl)
+
+-- the first two agree: the others are not looked at
+pub others-wild : meanLevelAnswer 4 (1_500 ∷ 1_501 ∷ 0 ∷ 99_999_999 ∷ []) ≡ figures (1_501 ∷ [])
+unfolding meanLevelAnswer meanLevel rounded
+others-wild = refl
+
 pub level-nought : meanLevelAnswer 2 (0 ∷ 0 ∷ 0 ∷ 0 ∷ []) ≡ refusal 16
 unfolding meanLevelAnswer meanLevel rounded
 level-nought = refl

@@ -1,4 +1,4 @@
--- Step 1 of document 01, the mean level of two or four readings, with refusals 14 to 16. Readings are in mm, a mean level in units of it.
+-- Step 1 of document 01, the mean level of two or four readings, with refusals 14, 15, 23 and 16. Readings are in mm, a mean level in units of it.
 use Prim.Native.Nat.{ℕ, _+_, _-_, _*_}
 use mathlib.Core.Bool.{Bool, cond, not, _&&_, _||_}
 use mathlib.Core.List.{List, [], _∷_, _++_}
@@ -52,11 +52,20 @@ unusedBad n x = not (eqb n 2 || eqb n 4) || eqb n 2 && (not (eqb (getD x 2 0) 0)
 abbrev pub disagree : ℕ → List ℕ → Bool
 disagree n x = eqb n 2 && apart (getD x 0 0) (getD x 1 0)
 
+-- how far three readings in rising order lie apart, in mm
+abbrev pub span : List ℕ → ℕ
+span t = getD t 2 0 - getD t 0 0
+
+-- 23: three of four readings are used and they span more than 3 mm
+abbrev pub scattered : ℕ → List ℕ → Bool
+scattered n x = eqb n 4 && (apart (getD x 0 0) (getD x 1 0) && ltb 3 (span (closestOf (sorted x))))
+
 -- the refusals of n readings, in the listed order
 abbrev pub readingsTests : ℕ → List ℕ → List Test
 readingsTests n x =
     refuseIf 14 (unusedBad n x)
     ∷ refuseIf 15 (disagree n x)
+    ∷ refuseIf 23 (scattered n x)
     ∷ []
 
 -- the mean level by itself, which is refused where it is 0

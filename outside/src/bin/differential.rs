@@ -13,7 +13,7 @@ const SHEETS: u64 = 20_000;
 const MARGIN: usize = 64;
 
 /// Refusals are numbered below this.
-const NUMBERS: usize = 23;
+const NUMBERS: usize = 24;
 
 /// Bytes of the four G lines.
 const GRADE_LINES: usize = 4 * 38;
@@ -159,9 +159,12 @@ impl Tally {
         println!("{} sheets answered alike, length, number and every byte", self.sheets);
         println!("accepted: {} sheets, {} cars", self.accepted_sheets, self.accepted_cars);
         println!("cars accepted, by the G lines of grades 1 to 4: {:?}", self.grades);
-        for (kind, range) in [("sheets", 1..10), ("cars", 10..22)] {
-            let counts: Vec<String> =
-                range.map(|number| format!("{number}: {}", self.refusals[number])).collect();
+        let of_a_car = (10..16).chain([23]).chain(16..22).collect();
+        for (kind, numbers) in [("sheets", (1..10).collect::<Vec<_>>()), ("cars", of_a_car)] {
+            let counts: Vec<String> = numbers
+                .iter()
+                .map(|&number| format!("{number}: {}", self.refusals[number]))
+                .collect();
             println!("{kind} refused, by number: {}", counts.join(", "));
         }
     }

@@ -1,10 +1,15 @@
 //! Where two suppliers would part: sheets on which a wrong way prints something else.
 
+use super::levels::four;
 use super::rack::{cars_on, numbered, CAR};
 use super::Case;
 use crate::car::Car;
 
 pub fn cases() -> Vec<Case> {
+    [steps(), spans()].into_iter().flatten().collect()
+}
+
+fn steps() -> Vec<Case> {
     let thirds = "T 1 2\nR 0 0\nR 3000 20000";
     let at = |level| Car { readings: [level, level, 0, 0], ..CAR };
     vec![
@@ -129,6 +134,76 @@ pub fn cases() -> Vec<Case> {
              G 1 0 0 0
              G 2 0 0 0
              G 3 4 128916 128012
+             G 4 0 0 0",
+        ),
+    ]
+}
+
+/// What the span of refusal 23 is taken of, and how much it may be.
+fn spans() -> Vec<Case> {
+    vec![
+        numbered(
+            "parting-span-of-4-accepted",
+            &[four(1500, 1504, 1502, 1600), four(1400, 1504, 1502, 1500)],
+            "X 1 23
+             X 2 23
+             S 0 0 0
+             G 1 0 0 0
+             G 2 0 0 0
+             G 3 0 0 0
+             G 4 0 0 0",
+        ),
+        numbered(
+            "parting-span-of-3-refused",
+            &[four(1500, 1503, 1502, 1600), four(1400, 1503, 1502, 1500)],
+            "A 1 1502 3506000 3398331 32284 32058
+             A 2 1502 3506000 3398331 32284 32058
+             S 2 64568 64116
+             G 1 0 0 0
+             G 2 0 0 0
+             G 3 2 64568 64116
+             G 4 0 0 0",
+        ),
+        numbered(
+            "parting-span-of-all-four-readings",
+            &[four(1500, 1504, 1501, 1502), four(1400, 1503, 1501, 1502)],
+            "A 1 1501 3503000 3395423 32257 32031
+             A 2 1502 3506000 3398331 32284 32058
+             S 2 64541 64089
+             G 1 0 0 0
+             G 2 0 0 0
+             G 3 2 64541 64089
+             G 4 0 0 0",
+        ),
+        numbered(
+            "parting-span-though-first-two-agree",
+            &[four(1500, 1501, 1505, 1510), four(1501, 1501, 1505, 1497)],
+            "A 1 1501 3503000 3395423 32257 32031
+             A 2 1501 3503000 3395423 32257 32031
+             S 2 64514 64062
+             G 1 0 0 0
+             G 2 0 0 0
+             G 3 2 64514 64062
+             G 4 0 0 0",
+        ),
+        numbered(
+            "parting-span-of-the-lower-triple-where-the-upper-is-used",
+            &[four(1499, 1504, 1501, 1503)],
+            "A 1 1503 3509000 3401238 32312 32086
+             S 1 32312 32086
+             G 1 0 0 0
+             G 2 0 0 0
+             G 3 1 32312 32086
+             G 4 0 0 0",
+        ),
+        numbered(
+            "parting-span-of-the-upper-triple-where-the-lower-is-used",
+            &[four(1500, 1505, 1501, 1503)],
+            "A 1 1501 3503000 3395423 32257 32031
+             S 1 32257 32031
+             G 1 0 0 0
+             G 2 0 0 0
+             G 3 1 32257 32031
              G 4 0 0 0",
         ),
     ]

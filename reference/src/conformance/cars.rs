@@ -1,5 +1,6 @@
-//! Cars at the bounds of each refusal from 10 to 21.
+//! Cars at the bounds of each refusal from 10 to 14 and from 17 to 21.
 
+use super::levels::four;
 use super::rack::{cars_on, numbered, CAR, TABLE};
 use super::Case;
 use crate::car::Car;
@@ -55,6 +56,18 @@ fn numbers() -> Vec<Case> {
             "A 7 1500 3500000 3392515 32229 32003
              X 7 11
              X 7 11
+             S 1 32229 32003
+             G 1 0 0 0
+             G 2 0 0 0
+             G 3 1 32229 32003
+             G 4 0 0 0",
+        ),
+        Case::new(
+            "refusal-11-number-of-a-car-refused-by-23",
+            cars_on(TABLE, &[Car { number: 7, ..four(1500, 1504, 1502, 1600) }, car(7), car(8)]),
+            "X 7 23
+             X 7 11
+             A 8 1500 3500000 3392515 32229 32003
              S 1 32229 32003
              G 1 0 0 0
              G 2 0 0 0
@@ -178,7 +191,7 @@ fn kinds() -> Vec<Case> {
     ]
 }
 
-/// Refusals 17 to 21; 15 and 16 stand with the levels.
+/// Refusals 17 to 21; 15 and 16 stand with the levels, 23 with the spans.
 fn limits() -> Vec<Case> {
     let hot = |grade, temperature| Car { grade, temperature, water: 0, impurities: 0, ..CAR };
     let wet = |grade, water, impurities| Car { grade, water, impurities, density: 9400, ..CAR };

@@ -3,7 +3,7 @@
 use super::Case;
 
 /// What each refusal says, in a few words.
-const REFUSALS: [&str; 22] = [
+const REFUSALS: [&str; 24] = [
     "",
     "the answer buffer is too short",
     "the sheet is too long",
@@ -26,10 +26,13 @@ const REFUSALS: [&str; 22] = [
     "the density at 15 °C",
     "water or impurities",
     "the density at 20 °C",
+    "one line written alone",
+    "the span of the three readings used",
 ];
 
 /// Words of a name that tell the step it tries.
-const STEPS: [(&str, &str); 20] = [
+const STEPS: [(&str, &str); 21] = [
+    ("span", "refusal 23"),
     ("mean", "step 1"),
     ("reading", "step 1"),
     ("triple", "step 1"),
@@ -57,7 +60,7 @@ pub fn of(cases: &[Case]) -> String {
     let mut text = format!(
         "# Index of the {} sheets\n\n\
          Made by `make_conformance`. The rule is that of document 01, for totals by grade that of \
-         document 02 (a); lines are counted from 1 on the sheet.\n\n| Sheet | Rule | Shown by | What it tries |\n|---|---|---|---|\n",
+         document 02 (a), for refusal 23 that of 02 (b); lines are counted from 1 on the sheet.\n\n| Sheet | Rule | Shown by | What it tries |\n|---|---|---|---|\n",
         cases.len()
     );
     let mut sorted: Vec<&Case> = cases.iter().collect();

@@ -1,16 +1,17 @@
-//! Readings and mean levels: two or four, near and far, ties of triples (14 to 16).
+//! Readings and mean levels: two or four, near and far, ties of triples (15 and 16).
 
 use super::rack::{numbered, CAR};
 use super::Case;
 use crate::car::Car;
 
-const LARGEST: u32 = 99_999_999;
+/// The largest number that a field holds.
+pub const LARGEST: u32 = 99_999_999;
 
 fn two(first: u32, second: u32) -> Car {
     Car { readings: [first, second, 0, 0], ..CAR }
 }
 
-fn four(first: u32, second: u32, third: u32, fourth: u32) -> Car {
+pub fn four(first: u32, second: u32, third: u32, fourth: u32) -> Car {
     Car { given: 4, readings: [first, second, third, fourth], ..CAR }
 }
 
@@ -102,19 +103,19 @@ pub fn cases() -> Vec<Case> {
             &[
                 four(1500, 1503, 1501, 1502),
                 four(1503, 1500, 1502, 1501),
-                four(1500, 1506, 1502, 1504),
+                four(1500, 1504, 1501, 1503),
                 four(1500, 1502, 1500, 1502),
                 four(1502, 1500, 1502, 1500),
             ],
             "A 1 1501 3503000 3395423 32257 32031
              A 2 1501 3503000 3395423 32257 32031
-             A 3 1502 3506000 3398331 32284 32058
+             A 3 1501 3503000 3395423 32257 32031
              A 4 1501 3503000 3395423 32257 32031
              A 5 1501 3503000 3395423 32257 32031
-             S 5 161312 160182
+             S 5 161285 160155
              G 1 0 0 0
              G 2 0 0 0
-             G 3 5 161312 160182
+             G 3 5 161285 160155
              G 4 0 0 0",
         ),
         numbered(
@@ -188,7 +189,7 @@ pub fn cases() -> Vec<Case> {
                 two(LARGEST - 1, LARGEST),
                 four(LARGEST, LARGEST - 2, LARGEST, LARGEST),
                 four(LARGEST, LARGEST, 1500, 1500),
-                four(LARGEST, LARGEST - 2, 0, 0),
+                four(LARGEST, LARGEST - 3, 0, LARGEST),
             ],
             "X 1 16
              X 2 16

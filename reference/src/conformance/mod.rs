@@ -21,6 +21,8 @@ mod repeats;
 mod roundings;
 mod sizes;
 mod sources;
+mod span_order;
+mod spans;
 pub mod steps;
 mod tables;
 mod text;
@@ -50,9 +52,11 @@ pub fn cases() -> Vec<Case> {
         ends::cases(),
         cars::cases(),
         levels::cases(),
+        spans::cases(),
         roundings::cases(),
         calculation::cases(),
         order::cases(),
+        span_order::cases(),
         sources::cases(),
         damage::cases(),
         damage_order::cases(),

@@ -144,6 +144,7 @@ fn together() -> Vec<Case> {
 /// Refused cars, which count for no grade.
 fn refused() -> Vec<Case> {
     let of = |number, grade, level| Car { number, ..car(grade, level) };
+    let apart = |grade| Car { given: 4, readings: [1500, 1504, 1502, 1600], ..car(grade, 1500) };
     vec![
         numbered(
             "totals-of-refused-cars-only",
@@ -197,6 +198,32 @@ fn refused() -> Vec<Case> {
              G 2 0 0 0
              G 3 1 34607 34469
              G 4 0 0 0",
+        ),
+        numbered(
+            "totals-without-cars-refused-by-23",
+            &[
+                car(1, 1100),
+                apart(4),
+                car(2, 1200),
+                apart(3),
+                car(3, 1300),
+                apart(2),
+                car(4, 1400),
+                apart(1),
+            ],
+            "A 1 1100 2300000 2228325 20946 20862
+             X 2 23
+             A 3 1200 2600000 2518976 23678 23583
+             X 4 23
+             A 5 1300 2900000 2809627 26410 26304
+             X 6 23
+             A 7 1400 3200000 3100278 29143 29026
+             X 8 23
+             S 4 100177 99775
+             G 1 1 20946 20862
+             G 2 1 23678 23583
+             G 3 1 26410 26304
+             G 4 1 29143 29026",
         ),
         without(
             "totals-without-refused-cars-of-grade-1",

@@ -1,6 +1,7 @@
 //! Numbers that a program with words of 8, 16 or 18 bits would cut to others that pass.
 
-use super::rack::{self, numbered, CAR};
+use super::levels::four;
+use super::rack::{self, numbered, CAR, NONE_ACCEPTED};
 use super::text::{change, columns};
 use super::Case;
 use crate::car::{Car, FIELDS};
@@ -54,25 +55,45 @@ pub fn cases() -> Vec<Case> {
                 Car { readings: [1500, 67_036, 0, 0], ..CAR },
                 Car { readings: [67_036, 1500, 0, 0], ..CAR },
                 Car { readings: [67_036, 67_036, 0, 0], ..CAR },
-                Car { given: 4, readings: [1500, 67_036, 1504, 1505], ..CAR },
-                Car { given: 4, readings: [1500, 1510, 67_036, 67_046], ..CAR },
-                Car { given: 4, readings: [1500, 1508, 67_040, 67_044], ..CAR },
-                Car { given: 4, readings: [1500, 1502, 1501, 67_037], ..CAR },
-                Car { given: 4, readings: [1500, 1503, 1501, 1600], ..CAR },
+                four(1500, 67_036, 1501, 1503),
+                four(67_036, 67_038, 67_037, 1500),
+                four(1500, 67_039, 67_036, 67_038),
+                four(1500, 1502, 1501, 67_037),
+                four(1500, 1503, 1501, 1600),
             ],
             "X 1 15
              X 2 15
              X 3 16
-             A 4 1503 3509000 3401238 32312 32086
+             A 4 1501 3503000 3395423 32257 32031
              X 5 16
              X 6 16
              A 7 1501 3503000 3395423 32257 32031
              A 8 1501 3503000 3395423 32257 32031
-             S 3 96826 96148
+             S 3 96771 96093
              G 1 0 0 0
              G 2 0 0 0
-             G 3 3 96826 96148
+             G 3 3 96771 96093
              G 4 0 0 0",
+        ),
+        numbered(
+            "refusal-23-by-spans-of-256-and-65536",
+            &[
+                four(1500, 1756, 1501, 2100),
+                four(1500, 1758, 1600, 2900),
+                four(1000, 1757, 1501, 1502),
+                four(1500, 1510, 67_036, 67_046),
+                four(1500, 1508, 67_040, 67_044),
+                four(1500, 67_038, 1501, 99_999_999),
+            ],
+            &format!(
+                "X 1 23
+                 X 2 23
+                 X 3 23
+                 X 4 23
+                 X 5 23
+                 X 6 23
+                 {NONE_ACCEPTED}"
+            ),
         ),
         Case::new("refusal-07-type-65537", columns("T 65537 2\nR 0 0\nR 9 9\nE 0"), "Z 1 7"),
         Case::new("refusal-07-65538-rows", columns("T 1 65538\nR 0 0\nR 9 9\nE 0"), "Z 1 7"),

@@ -181,12 +181,12 @@ pub fn oil_share(water: u32, impurities: u32) -> Result<u32, Refusal> {
     Ok(10_000 - water - impurities)
 }
 
-/// A car worked out alone: refusals 7, 8, 10 and 12 to 21.
+/// A car worked out alone: refusals 7, 8, 10, 12 to 21 and 23.
 pub fn work_out(handed_in: &[HandedIn], car: &Car) -> Result<Figures, Refusal> {
     car.work_out(&check_tables(handed_in)?)
 }
 
-/// A car entered in a train with the tables that are handed in with it: refusals 7 to 21.
+/// A car entered in a train with the tables that are handed in with it: refusals 7 to 21 and 23.
 pub fn enter(train: &mut Train, handed_in: &[HandedIn], car: &Car) -> Result<Figures, Refusal> {
     train.enter(car, &check_tables(handed_in)?)
 }

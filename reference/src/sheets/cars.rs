@@ -1,6 +1,7 @@
 //! Drawing cars: sound ones with many values at the bounds, and spoiled ones for each refusal.
 
 use super::random::Random;
+use super::readings::{self, FAR};
 use super::tables::Table;
 use crate::car::{Car, FIELDS};
 use crate::level;
@@ -28,7 +29,7 @@ pub fn draw(random: &mut Random, tables: &[Table]) -> Car {
     };
     let level = draw_level(random, table);
     let highest = table.rows.last().map_or(0, |row| row.level);
-    draw_readings(random, &mut car, level, highest);
+    readings::draw(random, &mut car, level, highest);
     if let Ok(level) = level::mean(car.given, car.readings) {
         car.water_level = match random.below(4) {
             0 => 0,
@@ -78,34 +79,6 @@ fn draw_level(random: &mut Random, table: &Table) -> u32 {
     level.clamp(1, highest)
 }
 
-/// Two or four readings whose mean is the level or close to it, and not above the highest.
-fn draw_readings(random: &mut Random, car: &mut Car, level: u32, highest: u32) {
-    car.given = random.pick(&[2, 2, 4]);
-    let agreeing = random.pick(&[[level, level], [level, level - 1], [level - 1, level]]);
-    car.readings = match (car.given, random.below(3)) {
-        (2, _) => [agreeing[0], agreeing[1], 0, 0],
-        (_, 0) => {
-            let others = [0, 1, level, highest, 99_999_999];
-            [agreeing[0], agreeing[1], random.pick(&others), random.pick(&others)]
-        }
-        (_, 1) => {
-            // One reading lies far off, in any place.
-            let mut readings = [level, level - 1, level, level.saturating_sub(2)];
-            readings[random.below(4)] = random.pick(&[0, level + 9, 3_700, 99_999_999]);
-            readings
-        }
-        _ => {
-            let spread = random.between(2, 8);
-            let low = level.saturating_sub(spread);
-            [(); 4].map(|()| random.between(low, level.min(highest)))
-        }
-    };
-    if level::mean(car.given, car.readings).is_err() {
-        car.given = 2;
-        car.readings = [level, level, 0, 0];
-    }
-}
-
 /// Makes one or two rules for cars turn the car away, or come close to it.
 pub fn spoil(random: &mut Random, car: &mut Car, tables: &[Table], earlier: &[Car]) {
     let times = random.pick(&[1, 1, 1, 2]);
@@ -123,13 +96,20 @@ fn raise(random: &mut Random, car: &mut Car) {
 }
 
 fn spoil_once(random: &mut Random, car: &mut Car, tables: &[Table], earlier: &[Car]) {
-    const FAR: u32 = 99_999_999;
-    let (coolest, water, impurities, densest) = GRADES[(car.grade as usize).clamp(1, 4) - 1];
     let table = tables.iter().find(|table| table.car_type == car.car_type);
     let highest = table.and_then(|table| table.rows.last()).map_or(1, |row| row.level);
-    match random.below(16) {
+    match random.below(18) {
+        0..=5 => spoil_kind(random, car, earlier),
+        6..=11 => readings::spoil(random, car, highest),
+        12..=16 => spoil_contents(random, car),
+        _ => raise(random, car),
+    }
+}
+
+/// Refusals 10 to 13.
+fn spoil_kind(random: &mut Random, car: &mut Car, earlier: &[Car]) {
+    match random.below(6) {
         0 => car.number = 0,
-        15 => raise(random, car),
         1 | 2 => {
             if !earlier.is_empty() {
                 car.number = earlier[random.below(earlier.len())].number;
@@ -137,32 +117,24 @@ fn spoil_once(random: &mut Random, car: &mut Car, tables: &[Table], earlier: &[C
         }
         3 => car.car_type = random.pick(&[0, car.car_type + 1, 10_000, FAR]),
         4 => car.grade = random.pick(&[0, 5, 6, FAR]),
-        5 => car.stick = random.pick(&[0, 3, FAR]),
-        6 => car.given = random.pick(&[0, 1, 2, 3, 4, 5, FAR]),
-        7 => car.readings[random.between(2, 3) as usize] = random.pick(&[0, 1, highest, FAR]),
-        8 => {
-            let apart = random.pick(&[1, 2, 3, 1_000]);
-            car.readings[random.below(2)] += apart;
-        }
-        9 => {
-            let level = random.pick(&[0, highest, highest + 1, highest + 2, FAR]);
-            let beside = level.saturating_sub(1);
-            car.readings[..2].copy_from_slice(&random.pick(&[
-                [level, level],
-                [level, beside],
-                [beside, level],
-            ]));
-        }
-        10 => {
+        _ => car.stick = random.pick(&[0, 3, FAR]),
+    }
+}
+
+/// Refusals 17 to 21.
+fn spoil_contents(random: &mut Random, car: &mut Car) {
+    let (coolest, water, impurities, densest) = GRADES[(car.grade as usize).clamp(1, 4) - 1];
+    match random.below(5) {
+        0 => {
             let level = level::mean(car.given, car.readings).unwrap_or(1);
             car.water_level = random.pick(&[level - 1, level, level + 1, FAR]);
         }
-        11 => {
+        1 => {
             let beyond = [199, 200, 399, 400, 900, 901, 0, FAR, coolest - 1];
             car.temperature = random.pick(&beyond);
         }
-        12 => car.density = random.pick(&[0, 8_999, 9_000, 9_900, 9_901, FAR]),
-        13 => {
+        2 => car.density = random.pick(&[0, 8_999, 9_000, 9_900, 9_901, FAR]),
+        3 => {
             if random.one_in(2) {
                 car.water = random.pick(&[water, water + 1, 10_001, FAR]);
             } else {

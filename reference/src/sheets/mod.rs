@@ -4,6 +4,7 @@ mod cars;
 mod damage;
 mod draft;
 pub(crate) mod random;
+mod readings;
 mod rules;
 mod tables;
 

@@ -6,13 +6,19 @@ use mathlib.Core.List.{List, [], _∷_}
 use lib.Dec.{eqb}
 use borrow.Author.Needs.{needs}
 use borrow.Author.Tests.{eq-eqb, ne-eqb}
-use Rattle.base.specs.Answer.{refuseIf, first, firstNumber, answer, figures}
+use Rattle.base.specs.Answer.{refuseIf, first, firstNumber, answer, figures, refusal}
 use Rattle.base.proofs.Answer.{passed, refused-append, accepted-append}
 use Rattle.level.specs.Level.{meanLevel, readingsTests, meanLevelAnswer}
+use Rattle.level.proofs.Redip.{redip-right}
 use Rattle.level.proofs.mean_level.Statement.{statement}
 use Rattle.level.proofs.mean_level.Tie as tie
 
--- with no refusal of the readings
+-- with a refusal of the readings
+by-readings : (n : ℕ) (x : List ℕ) {k : ℕ} → k ≡ firstNumber (readingsTests n x) → (k ≡ 0 → ⊥) → refusal k ≡ meanLevelAnswer n x
+unfolding meanLevelAnswer
+by-readings n x e f = sym (rw (refused-append (refuseIf 16 (eqb (meanLevel x) 0) ∷ []) (readingsTests n x) e f))
+
+-- with none
 by-mean : (n : ℕ) (x : List ℕ) → 0 ≡ firstNumber (readingsTests n x) → {t : Bool} → eqb (meanLevel x) 0 ≡ t
     → answer (first (refuseIf 16 t ∷ [])) (meanLevel x ∷ []) ≡ meanLevelAnswer n x
 unfolding meanLevelAnswer
@@ -22,11 +28,11 @@ readings-refusal-requires : tie.Need-readings-refusal-requires
 readings-refusal-requires c κs = search needs
 
 returns : tie.Need-returns
-unfolding meanLevelAnswer
 returns c =
     let n = c .before .before .args .n in
     let x = c .before .before .args .readings in
-    sym (rw (refused-append (refuseIf 16 (eqb (meanLevel x) 0) ∷ []) (readingsTests n x) (c .before .readings-refusal .ensures) (c .if1 .taken)))
+    let e = by-readings n x (c .before .readings-refusal .ensures) (c .if1 .taken) in
+    (e, redip-right n x (search needs) e)
 
 mean-of-requires : tie.Need-mean-of-requires
 mean-of-requires c κs = search needs
@@ -36,7 +42,8 @@ returns-2 c =
     let s = c .before .before .before in
     let x = s .before .args .readings in
     let none = sym (c .before .before .if1 .left) ∙ s .readings-refusal .ensures in
-    by-mean (s .before .args .n) x none (eq-eqb (meanLevel x) 0 (sym (c .before .mean-of .ensures) ∙ c .if2 .taken))
+    let e = by-mean (s .before .args .n) x none (eq-eqb (meanLevel x) 0 (sym (c .before .mean-of .ensures) ∙ c .if2 .taken)) in
+    (e, redip-right (s .before .args .n) x (search needs) e)
 
 returns-3 : tie.Need-returns-3
 returns-3 c =
@@ -44,7 +51,8 @@ returns-3 c =
     let x = s .before .args .readings in
     let none = sym (c .before .before .if1 .left) ∙ s .readings-refusal .ensures in
     let level = c .before .mean-of .ensures in
-    ap (λ (k : ℕ). figures (k ∷ [])) level ∙ by-mean (s .before .args .n) x none (ne-eqb (meanLevel x) 0 (λ e. c .if2 .left (level ∙ e)))
+    let e = ap (λ (k : ℕ). figures (k ∷ [])) level ∙ by-mean (s .before .args .n) x none (ne-eqb (meanLevel x) 0 (λ z. c .if2 .left (level ∙ z))) in
+    (e, redip-right (s .before .args .n) x (search needs) e)
 
 pub mean-level-spec : {M : Type 1} → statement M
 mean-level-spec =

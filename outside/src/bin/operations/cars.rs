@@ -69,11 +69,12 @@ pub fn low_tables(random: &mut Random) -> Given {
     given
 }
 
-/// Sound cars of each grade, each with one field, and each two fields, at a limit.
+/// Cars of each grade, each with one field, and each two fields, at a limit.
 fn cars_at_limits() -> Vec<[u32; FIELDS]> {
     let mut cars = Vec::new();
     for grade in 1..=4 {
-        for readings in [[2, 9, 9, 0, 0], [4, 9, 6, 8, 7]] {
+        // two that agree; four, of which the three used span 2 mm, 3 mm and 4 mm
+        for readings in [[2, 9, 9, 0, 0], [4, 9, 6, 8, 7], [4, 9, 5, 8, 6], [4, 9, 4, 8, 5]] {
             let mut sound = SOUND;
             sound[2] = grade;
             sound[4..9].copy_from_slice(&readings);
@@ -105,7 +106,9 @@ pub fn draw(random: &mut Random, given: &Given) -> [u32; FIELDS] {
     let level = random.between(1, last);
     let grade = random.between(1, 4);
     let coolest = if grade < 3 { 200 } else { 400 };
-    let [a, b, c, d] = [0, 1, 2, 3].map(|spread| level - random.between(0, spread).min(level - 1));
+    // mm that the readings lie apart at most: three of four may span more than 3
+    let spread = random.pick(&[1, 3, 5, 9]);
+    let [a, b, c, d] = [(); 4].map(|()| level - random.between(0, spread).min(level - 1));
     let highest_water = random.pick(&[0, level - 1, last]);
     let four = random.one_in(2) || a.abs_diff(b) > 1;
     let mut car = [

@@ -129,7 +129,24 @@ pub fn mean_level(times: u64) -> Tally {
     for length in (0..=9).filter(|&length| length != READINGS) {
         compare_mean(&mut tally, 2, &vec![7; length]);
     }
-    let near = [0, 1, 2, 3, 1_500, 1_501, 1_502, 1_503, 99_999_999, u32::MAX - 1, u32::MAX];
+    let near = [
+        0,
+        1,
+        2,
+        3,
+        4,
+        1_500,
+        1_501,
+        1_502,
+        1_503,
+        1_504,
+        1_505,
+        99_999_999,
+        u32::MAX - 4,
+        u32::MAX - 3,
+        u32::MAX - 1,
+        u32::MAX,
+    ];
     for count in [2, 4, 0, 1, 3, 5, u32::MAX] {
         for place in 0..near.len().pow(4) {
             let readings =

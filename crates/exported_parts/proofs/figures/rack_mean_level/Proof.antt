@@ -31,7 +31,7 @@ answered : (m : tie.After-mean-level)
     → meanLevelTold (m .mean-level .result)
     ≡ sized (lengthIs 4 (now (start m .args .readings))) (meanLevelAnswer (start m .args .count) (now (start m .args .readings)))
 answered m =
-    m .mean-level .ensures
+    m .mean-level .ensures .0
     ∙ ap (meanLevelAnswer (start m .args .count)) (m .before .four .ensures)
     ∙ right-sized _ (eq-eqb _ _ (m .before .before .if1 .left))
 
