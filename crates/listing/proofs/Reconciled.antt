@@ -36,9 +36,10 @@ use Rattle.grammar.specs.ByGrammar.{ReadByGrammar}
 use Rattle.grammar.proofs.Turns.{sheet-proper}
 use Rattle.grammar.proofs.ByGrammar.{by-grammar}
 use Rattle.sheet.specs.declared.Contents.{Contents}
-use Rattle.sheet.specs.declared.Outcome.{Outcome}
-use Rattle.sheet.specs.declared.Outcome.the-variants.{Whole, RefusedAt}
-use Rattle.sheet.specs.Layout.{carsOf, outcomeTold, readIn}
+use Rattle.stepping.specs.declared.Outcome.{Outcome}
+use Rattle.stepping.specs.declared.Outcome.the-variants.{Whole, RefusedAt}
+use Rattle.sheet.specs.Layout.{readIn}
+use Rattle.stepping.specs.Layout.{carsOf, outcomeTold}
 use Rattle.listing.specs.Listing.{itemsOf, answerLine, totalsLine, gradeLines, totalsLines, sheetRefusedLine, linesFrom, answerLines, sheetNumber, leastBuffer, replyOf, afterAnswer}
 use Rattle.listing.specs.Reconciled.{Small, linesWith, EachAnswered, loadsOf, shownOf, totalsShown, gradesShown, SumOf, SheetReconciled}
 use Rattle.listing.specs.Paper.{PaperExample}

@@ -21,9 +21,9 @@ use Rattle.train.specs.Train.{emptyTrain, enterAnswer, enterTrain}
 use Rattle.train.specs.Book.{Item, car}
 use Rattle.train.specs.Inner.{Reached}
 use Rattle.train.proofs.Book.{reached-first, reached-next, reached-sound, reached-four}
-use Rattle.sheet.specs.Layout.{carsFrom, carsOf}
+use Rattle.stepping.specs.Layout.{carsFrom, carsOf}
 use Rattle.grammar.specs.Grammar.{CarNumbers, EachCar}
-use Rattle.sheet.proofs.Arrays.{length-cars}
+use Rattle.stepping.proofs.Arrays.{length-cars}
 use Rattle.grammar.specs.Text.{textOf}
 use Rattle.listing.specs.Listing.{itemsOf, answerLine, totalsLines, linesFrom, leastBuffer}
 use Rattle.listing.specs.Inner.{Closing}

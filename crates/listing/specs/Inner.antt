@@ -8,7 +8,7 @@ use Rattle.table.specs.declared.Directory.{Directory}
 use Rattle.table.specs.Inner.{Good}
 use Rattle.summing.specs.declared.Sums.{Sums}
 use Rattle.summing.specs.Inner.{Sound}
-use Rattle.sheet.specs.Layout.{carsOf}
+use Rattle.stepping.specs.Layout.{carsOf}
 use Rattle.grammar.specs.Grammar.{EachCar}
 use Rattle.grammar.specs.Text.{textOf}
 use Rattle.listing.specs.Listing.{totalsLines, leastBuffer}

@@ -12,13 +12,14 @@ use Rattle.grammar.specs.ByGrammar.{Refusal, ReadByGrammar}
 use Rattle.grammar.specs.Inner.{SoundState}
 use Rattle.grammar.proofs.Turns.{sheet-proper}
 use Rattle.grammar.proofs.ByGrammar.{by-grammar}
-use Rattle.sheet.specs.declared.Outcome.the-variants.{Whole, RefusedAt}
+use Rattle.stepping.specs.declared.Outcome.the-variants.{Whole, RefusedAt}
 use Rattle.sheet.specs.declared.Contents.{Contents}
-use Rattle.sheet.specs.declared.reader.Reader.{Reader}
-use Rattle.sheet.specs.Layout.{carsOf, readIn, Held}
-use Rattle.sheet.specs.Inner.{stateIn, Bounds, SoundReader}
-use Rattle.sheet.proofs.Arrays.{length-cars}
-use Rattle.sheet.proofs.Room.{few-tables, owing}
+use Rattle.stepping.specs.declared.reader.Reader.{Reader}
+use Rattle.stepping.specs.Layout.{carsOf}
+use Rattle.sheet.specs.Layout.{readIn, Held}
+use Rattle.stepping.specs.Inner.{stateIn, Bounds, SoundReader}
+use Rattle.stepping.proofs.Arrays.{length-cars}
+use Rattle.stepping.proofs.Room.{few-tables, owing}
 
 -- While the reading goes on.
 

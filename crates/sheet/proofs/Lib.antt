@@ -1,4 +1,2 @@
-pub mod Arrays
-pub mod Room
 pub mod Held
 pub mod Taken

@@ -8,32 +8,21 @@ ghost use Rattle.sheet.specs.Layout.{readIn, Held};
 use base::MOST_CARS;
 use base::MOST_ROWS;
 use base::MOST_TABLES;
-use reader::Progress;
 use reading::CAR_BYTES;
 use reading::END_BYTES;
-use reading::MOST_FIELDS;
 use reading::ROW_BYTES;
 use reading::TABLE_BYTES;
+use stepping::CAR_NUMBERS;
+use stepping::Outcome;
+use stepping::Progress;
 use table::Directory;
 
-mod reader; // reader.rt: where the reading stands
-mod store; // store.rt: rows and cars stored in the arrays that are lent
-mod lines; // lines.rt: what a line of each letter brings
 mod rows; // rows.rt: the rows of a table, taken one after another
 
 // The longest sheet, in bytes: four tables of 400 rows, sixty cars, and the E line.
 pub const LONGEST_SHEET: usize = MOST_TABLES * (TABLE_BYTES + MOST_ROWS * ROW_BYTES)
     + MOST_CARS * CAR_BYTES
     + END_BYTES;
-
-// How many numbers its C lines hold.
-pub const CAR_NUMBERS: usize = MOST_CARS * MOST_FIELDS;
-
-// Whether the sheet was read whole, or the line number and the refusal.
-pub enum Outcome {
-    Whole,
-    RefusedAt(u32, u32),
-}
 
 // What reading a sheet gives, beside the arrays that are lent: the rows of its tables stand there as the
 // directory says, the fourteen numbers of car i from 14 i on. Beside a refusal they are what was read before it.
@@ -58,7 +47,7 @@ pub fn read_sheet(
         × ReadByGrammar (now (s .entry))
         ⌝ }
 {
-    let mut reader = reader::started();
+    let mut reader = stepping::started();
     if LONGEST_SHEET < s.len() {
         let directory = reader.directory;
         return Contents {
@@ -69,7 +58,7 @@ pub fn read_sheet(
     }
     loop {
         let taken = rows::take_rows(s, reader, levels, capacities);
-        let step = lines::read_step(s, taken, levels, capacities, fields);
+        let step = stepping::read_step(s, taken, levels, capacities, fields);
         let progress = step.progress;
         reader = step.reader;
         let directory = reader.directory;

@@ -8,13 +8,13 @@ ghost use lib.ListN.{length};
 ghost use Rattle.reading.specs.Reading.{lineAt, rowOnly, rowRead};
 ghost use Rattle.table.specs.Table.{rowOf, laterRowBad};
 ghost use Rattle.grammar.specs.Inner.{Onward};
-ghost use Rattle.sheet.specs.Inner.{stateIn, Bounds, SoundReader};
-use crate::reader::Reader;
-use crate::reader::reader_at;
-use crate::store::store_row;
+ghost use Rattle.stepping.specs.Inner.{stateIn, Bounds, SoundReader};
 use base::MOST_ROWS;
 use reading::Pair;
 use reading::ROW_BYTES;
+use stepping::Reader;
+use stepping::reader_at;
+use stepping::store_row;
 
 // The R line at `at`, where there is one that may follow the row `level0`, `capacity0`; else good is false.
 fn next_row(s: &[u8], at: usize, level0: u32, capacity0: u32) -> Pair

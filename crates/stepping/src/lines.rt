@@ -4,7 +4,7 @@ ghost use mathlib.Core.List.{List};
 ghost use Prim.Native.Nat.{ℕ, _<_};
 ghost use Rattle.table.specs.Table.{rowOf};
 ghost use Rattle.grammar.specs.Sheet.{tableLine, rowLine, carLine, endLine, stepOf};
-ghost use Rattle.sheet.specs.Inner.{stateIn, stepIn, Owing, Bounds};
+ghost use Rattle.stepping.specs.Inner.{stateIn, stepIn, Owing, Bounds};
 use crate::CAR_NUMBERS;
 use crate::Outcome;
 use crate::reader::Progress;

@@ -12,7 +12,7 @@ use Rattle.table.specs.Layout.{rowsFrom, tablesFrom, tablesOf}
 use Rattle.table.proofs.Table.{table-line-good}
 use Rattle.table.proofs.Arrays.{length-rows}
 use Rattle.grammar.specs.Grammar.{Passed}
-use Rattle.sheet.specs.Inner.{Owing}
+use Rattle.stepping.specs.Inner.{Owing}
 
 -- table j of those before `end`, of which the last lacks `owed` rows
 record Room (rows : List ℕ) (owed end j : ℕ) : Type 0 where

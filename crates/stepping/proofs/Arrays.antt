@@ -17,9 +17,9 @@ use Rattle.table.proofs.Arrays.{rows-last}
 use Rattle.grammar.specs.Grammar.{kinds, lastRows}
 use Rattle.grammar.specs.Sheet.{dueBy, dueOf, withRow}
 use Rattle.grammar.proofs.Rules.{with-row-last, last-rows-last}
-use Rattle.sheet.specs.declared.reader.Reader.{Reader}
-use Rattle.sheet.specs.Layout.{carsFrom}
-use Rattle.sheet.specs.Inner.{stateIn, Stored}
+use Rattle.stepping.specs.declared.reader.Reader.{Reader}
+use Rattle.stepping.specs.Layout.{carsFrom}
+use Rattle.stepping.specs.Inner.{stateIn, Stored}
 
 -- Rows.
 

@@ -1,4 +1,4 @@
--- `sheet::lines::row_line` meets its contract: 8 by the rows before it, else one more row.
+-- `stepping::lines::row_line` meets its contract: 8 by the rows before it, else one more row.
 use Prim.Native.Nat.{_-_}
 use mathlib.Core.Path.{_≡_, refl, ap, sym, _∙_}
 use mathlib.Core.List.{List}
@@ -8,12 +8,12 @@ use lib.ListN.{length}
 use Rattle.base.specs.Limits.{mostTables}
 use Rattle.table.specs.Table.{Row, rowOf, rowBad}
 use Rattle.grammar.specs.Grammar.{lastRows}
-use Rattle.sheet.specs.Inner.{stateIn}
-use Rattle.sheet.proofs.Arrays.{rows-held, row-more}
+use Rattle.stepping.specs.Inner.{stateIn}
+use Rattle.stepping.proofs.Arrays.{rows-held, row-more}
 use Rattle.grammar.proofs.Rules.{row-refused, row-taken}
 use borrow.Author.Needs.{needs}
-use Rattle.sheet.proofs.lines.row_line.Statement.{statement}
-use Rattle.sheet.proofs.lines.row_line.Tie as tie
+use Rattle.stepping.proofs.lines.row_line.Statement.{statement}
+use Rattle.stepping.proofs.lines.row_line.Tie as tie
 
 -- a directory has four places
 four : (c : tie.After-directory) → length (c .before .args .reader .directory .rows) ≡ mostTables

@@ -1,10 +1,10 @@
--- `sheet::lines::end_line` meets its contract: each return follows from the tests before it.
+-- `stepping::lines::end_line` meets its contract: each return follows from the tests before it.
 use Rattle.base.proofs.Tests.{tests}
 use Rattle.grammar.specs.Sheet.{endLine}
-use Rattle.sheet.proofs.Arrays.{length-cars}
+use Rattle.stepping.proofs.Arrays.{length-cars}
 use borrow.Author.Needs.{needs}
-use Rattle.sheet.proofs.lines.end_line.Statement.{statement}
-use Rattle.sheet.proofs.lines.end_line.Tie as tie
+use Rattle.stepping.proofs.lines.end_line.Statement.{statement}
+use Rattle.stepping.proofs.lines.end_line.Tie as tie
 
 refused-here-requires : tie.Need-refused-here-requires
 refused-here-requires c κs = search needs

@@ -1,4 +1,4 @@
--- `sheet::lines::table_line` meets its contract: 7 by the types so far, else one more table.
+-- `stepping::lines::table_line` meets its contract: 7 by the types so far, else one more table.
 use Prim.Native.Nat.{_<_, ℕ}
 use mathlib.Core.Path.{_≡_, ap, sym, _∙_}
 use mathlib.Core.List.{List}
@@ -9,12 +9,12 @@ use Rattle.base.specs.Limits.{mostTables}
 use Rattle.table.specs.Table.{tableLineBad}
 use Rattle.table.proofs.Table.{table-line-good}
 use Rattle.grammar.specs.Grammar.{kinds}
-use Rattle.sheet.specs.Inner.{stateIn}
-use Rattle.sheet.proofs.Arrays.{kinds-first, table-more}
+use Rattle.stepping.specs.Inner.{stateIn}
+use Rattle.stepping.proofs.Arrays.{kinds-first, table-more}
 use Rattle.grammar.proofs.Rules.{table-refused, table-taken}
 use borrow.Author.Needs.{needs}
-use Rattle.sheet.proofs.lines.table_line.Statement.{statement}
-use Rattle.sheet.proofs.lines.table_line.Tie as tie
+use Rattle.stepping.proofs.lines.table_line.Statement.{statement}
+use Rattle.stepping.proofs.lines.table_line.Tie as tie
 
 -- a directory has four places
 four : (c : tie.After-directory) → let h = c .before .args .reader .directory in (length (h .types) ≡ mostTables) × (length (h .rows) ≡ mostTables)

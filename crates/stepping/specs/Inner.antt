@@ -8,11 +8,11 @@ use Rattle.table.specs.declared.Directory.{Directory}
 use Rattle.table.specs.Layout.{tablesOf}
 use Rattle.grammar.specs.Sheet.{longest, State, Step, next, over}
 use Rattle.grammar.specs.Inner.{Sound}
-use Rattle.sheet.specs.declared.reader.Progress.{Progress}
-use Rattle.sheet.specs.declared.reader.Progress.the-variants.{Next, Over}
-use Rattle.sheet.specs.declared.reader.Reader.{Reader}
-use Rattle.sheet.specs.declared.reader.Stepped.{Stepped}
-use Rattle.sheet.specs.Layout.{carsOf, outcomeTold}
+use Rattle.stepping.specs.declared.reader.Progress.{Progress}
+use Rattle.stepping.specs.declared.reader.Progress.the-variants.{Next, Over}
+use Rattle.stepping.specs.declared.reader.Reader.{Reader}
+use Rattle.stepping.specs.declared.reader.Stepped.{Stepped}
+use Rattle.stepping.specs.Layout.{carsOf, outcomeTold}
 
 -- what the code holds while the reading goes on
 abbrev pub stateIn : Reader → List ℕ → List ℕ → List ℕ → State

@@ -4,7 +4,7 @@ ghost use mathlib.Core.List.{List};
 ghost use Prim.Native.Nat.{ℕ, _<_};
 ghost use Rattle.base.specs.Limits.{mostTables};
 ghost use Rattle.grammar.specs.Sheet.{dueBy, refusedHere, start};
-ghost use Rattle.sheet.specs.Inner.{stateIn, stepIn, readerAt};
+ghost use Rattle.stepping.specs.Inner.{stateIn, stepIn, readerAt};
 use crate::Outcome;
 use base::MOST_TABLES;
 use reading::Due;

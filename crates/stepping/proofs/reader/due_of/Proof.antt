@@ -1,7 +1,7 @@
--- `sheet::reader::due_of` meets its contract.
+-- `stepping::reader::due_of` meets its contract.
 use Rattle.base.proofs.Tests.{tests}
-use Rattle.sheet.proofs.reader.due_of.Statement.{statement}
-use Rattle.sheet.proofs.reader.due_of.Tie as tie
+use Rattle.stepping.proofs.reader.due_of.Statement.{statement}
+use Rattle.stepping.proofs.reader.due_of.Tie as tie
 
 returns : tie.Need-returns
 returns c = search tests

@@ -6,8 +6,8 @@ ghost use lib.ListN.{length};
 ghost use Rattle.base.specs.Buffer.{put};
 ghost use Rattle.reading.specs.Letter.{mostFields};
 ghost use Rattle.table.specs.Layout.{places};
-ghost use Rattle.sheet.specs.Layout.{carNumbers};
-ghost use Rattle.sheet.specs.Inner.{Stored};
+ghost use Rattle.stepping.specs.Layout.{carNumbers};
+ghost use Rattle.stepping.specs.Inner.{Stored};
 use crate::CAR_NUMBERS;
 use reading::MOST_FIELDS;
 

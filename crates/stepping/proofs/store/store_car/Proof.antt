@@ -1,4 +1,4 @@
--- `sheet::store::store_car` meets its contract: the first j numbers are copied.
+-- `stepping::store::store_car` meets its contract: the first j numbers are copied.
 use Prim.Native.Nat.{ℕ, _+_, _-_, _≤_}
 use mathlib.Core.Path.{_≡_, ap, sym, _∙_}
 use mathlib.Core.List.{List}
@@ -7,11 +7,11 @@ use native.Mathlib.Omega.{arith}
 use lib.ListN.{length, set, getD}
 use lib.Seq.{paste, paste-zero, paste-suc}
 use Rattle.reading.specs.Letter.{mostFields}
-use Rattle.sheet.specs.Layout.{carNumbers}
-use Rattle.sheet.proofs.Arrays.{copied}
+use Rattle.stepping.specs.Layout.{carNumbers}
+use Rattle.stepping.proofs.Arrays.{copied}
 use borrow.Author.Needs.{needs}
-use Rattle.sheet.proofs.store.store_car.Statement.{statement}
-use Rattle.sheet.proofs.store.store_car.Tie as tie
+use Rattle.stepping.proofs.store.store_car.Statement.{statement}
+use Rattle.stepping.proofs.store.store_car.Tie as tie
 
 abbrev Inv-loop : tie.InvT-loop
 Inv-loop fields₀ at numbers j₀ fields j = (j ≤ mostFields) × (length fields₀ ≡ carNumbers) × (length numbers ≡ mostFields) × (fields ≡ paste fields₀ at numbers j)

@@ -1,4 +1,4 @@
--- `sheet::lines::car_line` meets its contract: 9 for the sixty-first, else one more car.
+-- `stepping::lines::car_line` meets its contract: 9 for the sixty-first, else one more car.
 use Prim.Native.Nat.{ℕ, _+_}
 use mathlib.Core.Path.{_≡_, ap, _∙_}
 use mathlib.Core.List.{List}
@@ -7,13 +7,13 @@ use denote.Ref.{now}
 use lib.ListN.{length}
 use borrow.Author.Tests.{le-leb, lt-leb}
 use Rattle.reading.specs.Letter.{mostFields}
-use Rattle.sheet.specs.Layout.{carsFrom}
-use Rattle.sheet.specs.Inner.{stateIn}
-use Rattle.sheet.proofs.Arrays.{length-cars, car-more}
+use Rattle.stepping.specs.Layout.{carsFrom}
+use Rattle.stepping.specs.Inner.{stateIn}
+use Rattle.stepping.proofs.Arrays.{length-cars, car-more}
 use Rattle.grammar.proofs.Rules.{car-refused, car-taken}
 use borrow.Author.Needs.{needs}
-use Rattle.sheet.proofs.lines.car_line.Statement.{statement}
-use Rattle.sheet.proofs.lines.car_line.Tie as tie
+use Rattle.stepping.proofs.lines.car_line.Statement.{statement}
+use Rattle.stepping.proofs.lines.car_line.Tie as tie
 
 refused-here-requires : tie.Need-refused-here-requires
 refused-here-requires c κs = search needs

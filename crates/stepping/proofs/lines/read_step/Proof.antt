@@ -1,4 +1,4 @@
--- `sheet::lines::read_step` meets its contract: the line due is read, and its letter picks the rule.
+-- `stepping::lines::read_step` meets its contract: the line due is read, and its letter picks the rule.
 use Prim.Native.Nat.{ℕ}
 use mathlib.Core.Path.{_≡_, ap, sym, _∙_}
 use mathlib.Core.List.{List, [], _∷_}
@@ -16,12 +16,12 @@ use Rattle.reading.specs.Reading.{letterOf, lineAt}
 use Rattle.reading.proofs.Letters.{found}
 use Rattle.reading.proofs.Lines.{is-line}
 use Rattle.grammar.specs.Sheet.{State, dueOf, byLetter, stepOf}
-use Rattle.sheet.specs.Inner.{stateIn}
-use Rattle.sheet.proofs.Arrays.{due-held}
+use Rattle.stepping.specs.Inner.{stateIn}
+use Rattle.stepping.proofs.Arrays.{due-held}
 use Rattle.grammar.proofs.Steps.{step-read, row-owed}
 use borrow.Author.Needs.{needs}
-use Rattle.sheet.proofs.lines.read_step.Statement.{statement}
-use Rattle.sheet.proofs.lines.read_step.Tie as tie
+use Rattle.stepping.proofs.lines.read_step.Statement.{statement}
+use Rattle.stepping.proofs.lines.read_step.Tie as tie
 
 -- the letters of an answer, by their places in the enum: none of them is found
 abbrev answers : List ℕ
