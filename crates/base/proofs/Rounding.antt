@@ -1,7 +1,7 @@
 -- Laws of R: within half a unit of the quotient, never falling with the numerator, exact where the quotient is whole.
 use mathlib.Core.Path.{_≡_, sym}
 use Prim.Native.Nat.{ℕ, _+_, _-_, _*_, _/_, _%_, _≤_, _<_}
-use native.Mathlib.Nat.{div-mul-le-self, lt-div-mul-add, le-div-iff-mul-le, div-lt-iff-lt-mul, mul-le-mul-left, mod-lt, div-add-mod', div-eq-of-lt-le, le-antisymm, le-refl}
+use native.Mathlib.Nat.{div-mul-le-self, lt-div-mul-add, le-div-iff-mul-le, div-lt-iff-lt-mul, mul-le-mul-left, mod-lt, div-add-mod', div-eq-of-lt-le}
 use native.Mathlib.Omega.{arith}
 use Rattle.base.specs.Rounding.{rounded}
 

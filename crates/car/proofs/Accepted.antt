@@ -1,5 +1,5 @@
 -- What holds of a car that neither its tables nor its own tests turn away: fields and levels are in range, and nothing is cut off.
-use Prim.Native.Nat.{ℕ, _≤_, _<_}
+use Prim.Native.Nat.{_≤_, _<_}
 use mathlib.Core.Path.{_≡_, refl}
 use mathlib.Core.Bool.{false}
 use mathlib.Core.List.{List, [], _∷_, _++_}

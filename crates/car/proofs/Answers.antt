@@ -1,8 +1,8 @@
 -- A car's answer by its tests in the parts in which the code takes them: the first refusal is that of the whole list.
-use Prim.Native.Nat.{ℕ, _≤_}
+use Prim.Native.Nat.{ℕ}
 use mathlib.Core.Path.{_≡_, refl, sym, ap, _∙_}
 use mathlib.Core.List.{List, [], _∷_, _++_}
-use Rattle.base.specs.Answer.{Test, Verdict, accepts, refuses, first, firstNumber, Answer, refusal, answer}
+use Rattle.base.specs.Answer.{Test, Verdict, accepts, refuses, first, firstNumber, refusal, answer}
 use Rattle.base.proofs.Answer.{passed, answer-figures, refuses-append, refused-append, accepted-append, accepted-parts}
 use Rattle.level.specs.Level.{readingsTests}
 use Rattle.table.specs.Table.{Table, tablesTests, tablesVerdict}

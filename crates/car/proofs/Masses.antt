@@ -1,5 +1,5 @@
 -- An accepted car's gross and net: within their distances of the exact ones, at most 199,203 kg, and never falling as the level rises.
-use Prim.Native.Nat.{ℕ, _≤_}
+use Prim.Native.Nat.{_≤_}
 use mathlib.Core.List.{List}
 use native.Mathlib.Nat.{le-trans}
 use Rattle.base.specs.Fraction.{Within}

@@ -1,6 +1,5 @@
 -- A car with readings: refusals 10 and 12 to 21 of document 01, with 23 between 15 and 16, in one list, and its answer.
 use Prim.Native.Nat.{ℕ}
-use mathlib.Core.Bool.{Bool}
 use mathlib.Core.List.{List, [], _∷_, _++_}
 use lib.ListN.{getD}
 use Rattle.base.specs.Limits.{largest}

@@ -2,17 +2,17 @@
 use Prim.Native.Nat.{ℕ, _+_, _-_, _≤_, _<_}
 use mathlib.Core.Path.{_≡_, refl, sym, ap, _∙_, subst}
 use mathlib.Core.Bool.{Bool, true, false, cond, _&&_}
-use mathlib.Core.List.{List, [], _∷_, _++_}
+use mathlib.Core.List.{List, [], _∷_}
 use mathlib.Core.Logic.{inl, inr}
 use native.Mathlib.Omega.{arith}
-use borrow.Author.Tests.{ltb-true, lt-ltb, leb-true, le-leb, leb-false, eqb-true}
+use borrow.Author.Tests.{ltb-true, lt-ltb, leb-true, le-leb, eqb-true}
 use lib.Dec.{ltb, leb, eqb}
 use lib.ListN.{length, getD}
 use Rattle.base.specs.Answer.{refuseIf, first, Answer, refusal, answer}
 use Rattle.base.proofs.Choice.{below, never, both-hold, cond-either}
 use Rattle.level.specs.Level.{inserted, sorted, closestOf, apart, span, meanLevel, unusedBad, disagree, scattered, meanLevelAnswer}
-use Rattle.level.specs.Redip.{heldFrom, NoThreeAgree, RedipRight}
-use Rattle.level.proofs.Sorting.{sort-four, elements-of-four, Rising, rising}
+use Rattle.level.specs.Redip.{heldFrom, RedipRight}
+use Rattle.level.proofs.Sorting.{sort-four, elements-of-four, Rising, rising, of-closest}
 
 -- 1 for a reading within the 3 mm from w on, else 0
 abbrev within : ℕ → ℕ → ℕ
@@ -80,28 +80,17 @@ few-wide s e r few =
     (elim (below 3 (c - a)) [ inl h ↦ h | inr h ↦ absurd (lower (omega arith)) ], elim (below 3 (d - b)) [ inl h ↦ h | inr h ↦ absurd (upper (omega arith)) ])
 
 -- The three closest span more than 3 mm exactly where both triples do.
-module _ (s : List ℕ) where
-  -- what holds of the lower three and of the upper three holds of the closest
-  of-closest : (P : List ℕ → Type 0)
-      → (getD s 2 0 - getD s 0 0 ≤ getD s 3 0 - getD s 1 0 → P (getD s 0 0 ∷ getD s 1 0 ∷ getD s 2 0 ∷ []))
-      → (getD s 3 0 - getD s 1 0 < getD s 2 0 - getD s 0 0 → P (getD s 1 0 ∷ getD s 2 0 ∷ getD s 3 0 ∷ []))
-      → P (closestOf s)
-  of-closest P f g =
-      let lower = getD s 2 0 - getD s 0 0 in
-      let upper = getD s 3 0 - getD s 1 0 in
-      cond-either P (leb lower upper) (getD s 0 0 ∷ getD s 1 0 ∷ getD s 2 0 ∷ []) (getD s 1 0 ∷ getD s 2 0 ∷ getD s 3 0 ∷ [])
-      (λ e. f (leb-true lower upper e)) (λ e. g (leb-false lower upper e))
 
-  closest-wide : ltb 3 (span (closestOf s)) ≡ true → Wide s
-  closest-wide =
-      let lower = getD s 2 0 - getD s 0 0 in
-      let upper = getD s 3 0 - getD s 1 0 in
-      of-closest (λ (t : List ℕ). ltb 3 (span t) ≡ true → Wide s)
-      (λ l e. let h = ltb-true 3 lower e in (omega arith, omega arith))
-      (λ l e. let h = ltb-true 3 upper e in (omega arith, omega arith))
+closest-wide : (s : List ℕ) → ltb 3 (span (closestOf s)) ≡ true → Wide s
+closest-wide s =
+    let lower = getD s 2 0 - getD s 0 0 in
+    let upper = getD s 3 0 - getD s 1 0 in
+    of-closest s (λ (t : List ℕ). ltb 3 (span t) ≡ true → Wide s)
+    (λ l e. let h = ltb-true 3 lower e in (omega arith, omega arith))
+    (λ l e. let h = ltb-true 3 upper e in (omega arith, omega arith))
 
-  wide-closest : Wide s → ltb 3 (span (closestOf s)) ≡ true
-  wide-closest h = of-closest (λ (t : List ℕ). ltb 3 (span t) ≡ true) (λ _. lt-ltb 3 (getD s 2 0 - getD s 0 0) (h .0)) (λ _. lt-ltb 3 (getD s 3 0 - getD s 1 0) (h .1))
+wide-closest : (s : List ℕ) → Wide s → ltb 3 (span (closestOf s)) ≡ true
+wide-closest s h = of-closest s (λ (t : List ℕ). ltb 3 (span t) ≡ true) (λ _. lt-ltb 3 (getD s 2 0 - getD s 0 0) (h .0)) (λ _. lt-ltb 3 (getD s 3 0 - getD s 1 0) (h .1))
 
 -- Four readings and the same sorted.
 module _ (x : List ℕ) (e : length x ≡ 4) where

@@ -2,13 +2,12 @@
 use Prim.Native.Nat.{ℕ, _+_, _-_, _*_}
 use mathlib.Core.Path.{_≡_, refl, ap₂, sym}
 use mathlib.Core.Bool.{Bool, true, false, cond, not}
-use mathlib.Core.List.{List, _∷_, _++_}
-use lib.ListN.{length, getD, take, replicate}
+use mathlib.Core.List.{List, _∷_}
+use lib.ListN.{length, getD, replicate}
 use lib.Seq.{take-at}
 use lib.Dec.{ltb, eqb}
 use Rattle.base.specs.Answer.{accepts, refuses, figures, answer}
 use Rattle.field.specs.Field.{columns}
-use Rattle.reading.specs.declared.letter.Letter.{Letter}
 use Rattle.reading.specs.declared.Due.{Due}
 use Rattle.reading.specs.declared.Found.{Found}
 use Rattle.reading.specs.declared.Found.the-variants.{Is, Nothing}

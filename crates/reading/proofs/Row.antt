@@ -23,7 +23,7 @@ use Rattle.reading.specs.declared.Pair.{Pair}
 use Rattle.reading.specs.Reading.{letterOf, feedAt, fieldValue, good, values, filled, numbersAt, lineAt, rowOnly, rowRead, noRow, rowBy, rowAt}
 use Rattle.reading.proofs.Letters.{found, from-letter}
 use Rattle.reading.proofs.Fields.{feed-byte, good-at}
-use Rattle.reading.proofs.Lines.{line-quick, IsLine, is-line}
+use Rattle.reading.proofs.Lines.{line-quick, is-line}
 
 -- what `row_at` tests
 pub record RowBytes (s : List ℕ) (at : ℕ) : Type 0 where

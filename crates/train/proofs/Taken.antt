@@ -5,12 +5,9 @@ use mathlib.Core.List.{List, _++_}
 use Rattle.base.specs.Answer.{Verdict, accepts, refuses, first, Answer, figures, answer}
 use Rattle.base.proofs.Answer.{accepted-parts}
 use Rattle.table.specs.Table.{Table, tablesTests}
-use Rattle.thermal.specs.Exact.{Power}
-use Rattle.base.specs.Fraction.{Within}
 use Rattle.car.specs.declared.Measured.{Measured}
 use Rattle.car.specs.Measured.{Mass, gross, net, mass, sixFigures}
 use Rattle.car.specs.Car.{numberTests, carTests, figuresOf, aloneTests, aloneAnswer}
-use Rattle.car.specs.Exact.{massˣ, distance}
 use Rattle.car.proofs.Accepted.{Passed, passed-car, uncut}
 use Rattle.car.proofs.Masses.{mass-near}
 use Rattle.train.specs.Train.{trainTests, admissionTests, enterTests, enterAnswer}

@@ -1,6 +1,5 @@
 -- `car::early_refusal` meets its contract: 12, or what 13 says.
 use mathlib.Core.Path.{sym, _∙_}
-use mathlib.Core.Bool.{false}
 use borrow.Author.Needs.{needs}
 use borrow.Author.Tests.{not-true, not-false}
 use Rattle.table.specs.Table.{unknown}

@@ -1,10 +1,9 @@
 -- `car::work_on` meets its contract: 12 and 13, the readings' refusals, or the answer from what is measured.
-use Prim.Native.Nat.{ℕ}
 use mathlib.Core.Path.{_≡_, _∙_}
 use mathlib.Core.List.{List}
 use borrow.Author.Needs.{needs}
 use denote.Ref.{now}
-use Rattle.base.specs.Answer.{accepts, first, firstNumber}
+use Rattle.base.specs.Answer.{firstNumber}
 use Rattle.table.specs.Table.{Table}
 use Rattle.table.specs.Layout.{tablesOf}
 use Rattle.car.specs.Measured.{earlyTests}

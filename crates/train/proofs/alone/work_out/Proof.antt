@@ -1,6 +1,6 @@
 -- `train::work_out` meets its contract: the refusal of the tables, 10, or the answer on tables that are not refused. Distance and filling
 -- order hold of any answer that a car gets alone.
-use mathlib.Core.Path.{_≡_, sym, ap, _∙_}
+use mathlib.Core.Path.{_≡_, sym, _∙_}
 use mathlib.Core.List.{List}
 use borrow.Author.Needs.{needs}
 use denote.Ref.{now}
