@@ -1,7 +1,7 @@
 // Answering a sheet, for callers in C or Rust.
 ghost use mathlib.Core.Path.{_≡_};
 ghost use lib.ListN.{length};
-ghost use Rattle.listing.specs.Listing.{replyOf, afterAnswer};
+ghost use Rattle.answers.specs.Listing.{replyOf, afterAnswer};
 
 // The answer's length, with the refusal's number in `number`: 1 for too short a buffer, else the sheet's, 0 where it has none.
 #[no_mangle]

@@ -13,7 +13,7 @@ use Rattle.reading.specs.Letter.{widthOf}
 use Rattle.line.specs.Writing.{lineOf, writable}
 use Rattle.line.proofs.Bytes.{length-lineOf, can-write}
 use Rattle.grammar.specs.Text.{textOf}
-use Rattle.listing.proofs.Lines.{Fit}
+use Rattle.answers.proofs.Lines.{Fit}
 
 -- `out` has the lines up to `at`, `left` are still to be written, and with them it is `all` from the place `from` on
 pub record Laid (lent : List ℕ) (from : ℕ) (all : List Line) (out : List ℕ) (at : ℕ) (left : List Line) : Type 0 where

@@ -4,35 +4,30 @@ use mathlib.Core.Path.{_≡_, ap, _∙_}
 use mathlib.Core.Bool.{true}
 use mathlib.Core.List.{List, [], _∷_}
 use native.Mathlib.Omega.{arith}
-use lib.ListN.{length, getD, take, drop, length-append}
-use Rattle.base.specs.Limits.{largest, mostCars, gradeCount}
+use lib.ListN.{length, getD, take, drop}
+use Rattle.base.specs.Limits.{mostCars}
 use Rattle.base.specs.Answer.{accepts}
 use Rattle.base.specs.Buffer.{put}
 use Rattle.reading.specs.declared.letter.Line.{Line}
-use Rattle.reading.specs.declared.letter.Letter.the-variants.{CarAccepted, Totals as S, GradeTotals as G}
 use Rattle.reading.specs.Letter.{widthOf}
 use Rattle.line.specs.Writing.{lineOf, writable}
-use Rattle.line.proofs.Bytes.{small-at, length-lineOf}
 use Rattle.table.specs.Table.{Table, tablesVerdict}
 use Rattle.table.proofs.Arrays.{one-left, none-left}
 use Rattle.car.specs.Car.{carOf}
 use Rattle.train.specs.declared.Train.{Train}
 use Rattle.train.specs.Train.{emptyTrain, enterAnswer, enterTrain}
-use Rattle.train.specs.Book.{Item, car}
+use Rattle.train.specs.Book.{car}
 use Rattle.train.specs.Inner.{Reached}
 use Rattle.train.proofs.Book.{reached-first, reached-next, reached-sound, reached-four}
 use Rattle.stepping.specs.Layout.{carsFrom, carsOf}
-use Rattle.grammar.specs.Grammar.{CarNumbers, EachCar}
+use Rattle.grammar.specs.Grammar.{EachCar}
 use Rattle.stepping.proofs.Arrays.{length-cars}
 use Rattle.grammar.specs.Text.{textOf}
-use Rattle.listing.specs.Listing.{itemsOf, answerLine, totalsLines, linesFrom, leastBuffer}
+use Rattle.answers.specs.Listing.{itemsOf, answerLine, totalsLines, linesFrom, leastBuffer}
+use Rattle.answers.proofs.Lengths.{number-small, text-most}
 use Rattle.listing.specs.Inner.{Closing}
-use Rattle.listing.proofs.Lines.{Fit, car-fit, totals-length}
+use Rattle.answers.proofs.Lines.{Fit, car-fit}
 use Rattle.listing.proofs.Laid.{Laid, none-laid, line-room, line-laid}
-
--- the bytes of the lines of cars from a train on
-abbrev textFrom : Train → List Item → List ℕ
-textFrom t items = textOf (linesFrom t items)
 
 -- the lines of a whole sheet, and their bytes
 abbrev pub sheetLines : List Table → List (List ℕ) → List Line
@@ -40,24 +35,6 @@ sheetLines ts cars = linesFrom emptyTrain (itemsOf ts cars)
 
 abbrev pub sheetText : List Table → List (List ℕ) → List ℕ
 sheetText ts cars = textOf (sheetLines ts cars)
-
--- the car number is one of fourteen that a field holds
-pub number-small : (ns : List ℕ) → CarNumbers ns → getD ns 0 0 ≤ largest
-number-small ns h = small-at ns 14 (h .small) 0 (omega arith)
-
--- room for so many cars' lines, S and the G lines
-abbrev pub room : ℕ → ℕ
-room cars = widthOf CarAccepted * cars + widthOf S + gradeCount * widthOf G
-
-pub text-most : (ts : List Table) → tablesVerdict ts ≡ accepts → (t : Train) → Reached t → (cars : List (List ℕ)) → EachCar cars
-    → length (textFrom t (itemsOf ts cars)) ≤ room (length cars)
-unfolding textOf
-text-most ts good t r [] h = omega (arith, totals-length (t .sums) (reached-four r))
-text-most ts good t r (ns ∷ cars) (h, hs) =
-    let l : Line = answerLine (getD ns 0 0) (enterAnswer ts t (carOf ns)) in
-    let f = car-fit ts t (carOf ns) good (number-small ns h) in
-    let later : List ℕ = textFrom (enterTrain ts t (carOf ns)) (itemsOf ts cars) in
-    omega (arith, length-append (lineOf l) later, length-lineOf l (f .fourteen), f .width, text-most ts good (enterTrain ts t (carOf ns)) (reached-next (car ts (carOf ns)) r) cars hs)
 
 -- the least buffer has room for every sheet's
 pub sheet-fits : (ts : List Table) → tablesVerdict ts ≡ accepts → (fields : List ℕ) (cars : ℕ) → cars ≤ mostCars → EachCar (carsOf fields cars)

@@ -17,9 +17,9 @@ use Rattle.summing.specs.Sums.{noTotals}
 use Rattle.summing.specs.Inner.{Low}
 use Rattle.summing.proofs.Adding.{grade-low}
 use Rattle.grammar.specs.Text.{textOf}
-use Rattle.listing.specs.Listing.{totalsLine, gradeLine, gradeLines, totalsLines}
+use Rattle.answers.specs.Listing.{totalsLine, gradeLine, gradeLines, totalsLines}
 use Rattle.listing.specs.Inner.{Closing}
-use Rattle.listing.proofs.Lines.{totals-fit, grade-fit}
+use Rattle.answers.proofs.Lines.{totals-fit, grade-fit}
 use Rattle.listing.proofs.Laid.{Laid, none-laid, line-room, line-laid, all-laid}
 
 -- S comes first.

@@ -11,7 +11,7 @@ use Rattle.summing.specs.Inner.{Sound}
 use Rattle.stepping.specs.Layout.{carsOf}
 use Rattle.grammar.specs.Grammar.{EachCar}
 use Rattle.grammar.specs.Text.{textOf}
-use Rattle.listing.specs.Listing.{totalsLines, leastBuffer}
+use Rattle.answers.specs.Listing.{totalsLines, leastBuffer}
 
 -- tables to which neither 7 nor 8 applies, at most sixty cars, each of numbers that a field holds, and room for their listing
 pub record Ready (d : Directory) (levels capacities fields : List ℕ) (cars room : ℕ) : Type 0 where

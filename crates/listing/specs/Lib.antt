@@ -1,4 +1,1 @@
-pub mod Listing
-pub mod Reconciled
-pub mod Paper
 pub mod Inner

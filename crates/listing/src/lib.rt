@@ -16,10 +16,11 @@ ghost use Rattle.grammar.specs.Text.{textOf};
 ghost use Rattle.grammar.specs.Sheet.{sheetOf};
 ghost use Rattle.grammar.specs.ByGrammar.{ReadByGrammar};
 ghost use Rattle.stepping.specs.Layout.{carsOf};
-ghost use Rattle.listing.specs.Listing.{itemsOf, answerLine, totalsLine, gradeLine, totalsLines, sheetRefusedLine, linesFrom, leastBuffer, replyOf, afterAnswer};
-ghost use Rattle.listing.specs.Reconciled.{SheetReconciled};
-ghost use Rattle.listing.specs.Paper.{PaperExample};
+ghost use Rattle.answers.specs.Listing.{itemsOf, answerLine, totalsLine, gradeLine, totalsLines, sheetRefusedLine, linesFrom, leastBuffer, replyOf, afterAnswer};
+ghost use Rattle.answers.specs.Reconciled.{SheetReconciled};
+ghost use Rattle.answers.specs.Paper.{PaperExample};
 ghost use Rattle.listing.specs.Inner.{Ready, Closing};
+use answers::Reply;
 use base::GRADES;
 use base::MOST_CARS;
 use car::Car;
@@ -42,12 +43,6 @@ use train::Train;
 pub const LEAST_BUFFER: usize = MOST_CARS * reading::CAR_ACCEPTED_BYTES
     + reading::TOTALS_BYTES
     + GRADES * reading::GRADE_TOTALS_BYTES;
-
-// The answer's length in bytes, and the number of the refusal: 1 for too short a buffer, else the sheet's, 0 where it has none.
-pub struct Reply {
-    pub length: usize,
-    pub number: u32,
-}
 
 // Number j of car i of the sheet, whose fourteen numbers stand from 14 i on.
 fn number_at(fields: &[u32; CAR_NUMBERS], i: usize, j: usize) -> u32

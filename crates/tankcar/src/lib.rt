@@ -47,6 +47,6 @@ pub use train::Train;
 pub use train::work_out;
 
 // A sheet answered; LEAST_BUFFER bytes are the least answer buffer.
+pub use answers::Reply;
 pub use listing::LEAST_BUFFER;
-pub use listing::Reply;
 pub use listing::answer_sheet;

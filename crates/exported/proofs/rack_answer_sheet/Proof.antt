@@ -1,6 +1,6 @@
 -- `exported::rack_answer_sheet` meets its contract: the reply's two numbers, one of them through the lent place.
 use mathlib.Core.Path.{ap}
-use Rattle.listing.specs.declared.Reply.{Reply}
+use Rattle.answers.specs.declared.Reply.{Reply}
 use borrow.Author.Needs.{needs}
 use Rattle.exported.proofs.rack_answer_sheet.Statement.{statement}
 use Rattle.exported.proofs.rack_answer_sheet.Tie as tie

@@ -2,7 +2,7 @@
 use mathlib.Core.Path.{sym, ap}
 use Rattle.car.specs.declared.CarAnswer.{CarAnswer}
 use Rattle.car.specs.Car.{carTold}
-use Rattle.listing.specs.Listing.{answerLine}
+use Rattle.answers.specs.Listing.{answerLine}
 use borrow.Author.Needs.{needs}
 use Rattle.listing.proofs.answer_line.Statement.{statement}
 use Rattle.listing.proofs.answer_line.Tie as tie

@@ -2,7 +2,8 @@
 use native.Mathlib.Omega.{arith}
 use borrow.Author.Needs.{needs}
 use denote.Ref.{now}
-use Rattle.listing.proofs.Reconciled.{too-short, answered, refused-read, whole-read, refused-proper, whole-proper}
+use Rattle.answers.proofs.Reconciled.{too-short, answered}
+use Rattle.listing.proofs.Read.{refused-read, whole-read, refused-proper, whole-proper}
 use Rattle.listing.proofs.answer_sheet.Statement.{statement}
 use Rattle.listing.proofs.answer_sheet.Tie as tie
 

@@ -15,7 +15,7 @@ use Rattle.train.specs.Train.{enterAnswer, enterTrain}
 use Rattle.train.specs.Inner.{lentTrain}
 use Rattle.train.proofs.Book.{reached-size, reached-sound}
 use Rattle.car.specs.Car.{carOf}
-use Rattle.listing.specs.Listing.{answerLine}
+use Rattle.answers.specs.Listing.{answerLine}
 use Rattle.listing.proofs.Run.{sheetText, sheet-fits, Written, begun, car-room, turn, totals-ready, ended}
 use Rattle.listing.proofs.write_listing.Statement.{statement}
 use Rattle.listing.proofs.write_listing.Tie as tie

@@ -7,8 +7,8 @@ use denote.Ref.{now}
 use lib.ListN.{length}
 use Rattle.line.proofs.Bytes.{length-lineOf, can-write}
 use Rattle.grammar.specs.Text.{textOf}
-use Rattle.listing.specs.Listing.{sheetRefusedLine}
-use Rattle.listing.proofs.Lines.{sheet-refused-fit}
+use Rattle.answers.specs.Listing.{sheetRefusedLine}
+use Rattle.answers.proofs.Lines.{sheet-refused-fit}
 use Rattle.listing.proofs.write_refused.Statement.{statement}
 use Rattle.listing.proofs.write_refused.Tie as tie
 

@@ -5,7 +5,7 @@ use native.Mathlib.Omega.{arith}
 use borrow.Author.Needs.{needs}
 use denote.Ref.{now}
 use Rattle.base.specs.Limits.{gradeCount}
-use Rattle.listing.specs.Listing.{gradeLines, totalsLines}
+use Rattle.answers.specs.Listing.{gradeLines, totalsLines}
 use Rattle.listing.proofs.Laid.{Laid}
 use Rattle.listing.proofs.Totals.{first-room, first-laid, Closed, none-closed, of-grade, grade-room, grade-turn, closed}
 use Rattle.listing.proofs.write_totals.Statement.{statement}

@@ -34,8 +34,8 @@ use Rattle.train.specs.Train.{trainTests, admissionTests, enterTests, enterAnsw
 use Rattle.summing.specs.Inner.{Low, Sound}
 use Rattle.summing.proofs.Adding.{grades-low}
 use Rattle.grammar.specs.Text.{textOf}
-use Rattle.listing.specs.Listing.{answerLine, totalsLine, gradeLine, gradeLines, totalsLines, sheetRefusedLine}
-use Rattle.listing.specs.Reconciled.{Small}
+use Rattle.answers.specs.Listing.{answerLine, totalsLine, gradeLine, gradeLines, totalsLines, sheetRefusedLine}
+use Rattle.answers.specs.Reconciled.{Small}
 
 -- each test of a car entered in a train has the number of a refusal
 enter-numbered : (ts : List Table) (t : Train) (c : Car) → numbered (enterTests ts t c) ≡ true

@@ -21,7 +21,7 @@ use Rattle.train.specs.Book.{Item, car, itemNumber, Load, loads, loadsOfGrade, 
 use Rattle.train.specs.Demand3.{Close, answersFrom, shown, Reconciled, InOrder}
 use Rattle.grammar.specs.Sheet.{SheetRead, refusedAt, whole}
 use Rattle.grammar.specs.Text.{lineWith}
-use Rattle.listing.specs.Listing.{itemsOf, answerLine, linesFrom, answerLines}
+use Rattle.answers.specs.Listing.{itemsOf, answerLine, linesFrom, answerLines}
 
 -- no number of the line exceeds 99,999,999, so that no field is cut
 abbrev pub Small : Line → Type 0

@@ -15,8 +15,8 @@ use Rattle.base.specs.Total.{total}
 use Rattle.train.specs.Train.{unsound, full, admissionTests, enterTests, enterAnswer, enterTrain}
 use Rattle.grammar.specs.Sheet.{tableLine, rowLine, carLine, endLine, stepOf, lines, sheetOf}
 use Rattle.grammar.specs.Text.{textOf}
-use Rattle.listing.specs.Listing.{replyOf}
-use Rattle.listing.specs.Paper.{paperSheet, paperListing, smallSheet, PaperExample}
+use Rattle.answers.specs.Listing.{replyOf}
+use Rattle.answers.specs.Paper.{paperSheet, paperListing, smallSheet, PaperExample}
 
 pub paper-example : PaperExample
 unfolding paperSheet paperListing smallSheet textOf replyOf rounded seenTo fieldAt justified fieldOf letterOf feed feedAt good values lineBy lineAt fieldsOf lineOf meanLevel interpolated capacityAt capacity.v0 thermal.expansion thermal.exponent thermal.term thermal.series thermal.factor thermal.densityAt steps.stickCoefficient steps.hotVolume steps.coldVolume steps.gross steps.net steps.volume15Of steps.grossOf steps.netOf measuredTests v0 mass sixFigures carTests total unsound full admissionTests enterTests enterAnswer enterTrain tableLine rowLine carLine endLine stepOf lines sheetOf

@@ -6,7 +6,7 @@ use mathlib.Core.List.{List, [], _∷_}
 use lib.ListN.{take}
 use Rattle.grammar.specs.Sheet.{sheetOf}
 use Rattle.grammar.specs.Text.{textOf}
-use Rattle.listing.specs.Listing.{answerLines, replyOf}
+use Rattle.answers.specs.Listing.{answerLines, replyOf}
 
 unfoldable pub paperSheet : List ℕ
 paperSheet =

@@ -20,7 +20,7 @@ use Rattle.train.specs.Book.{Item, car, itemNumber}
 use Rattle.train.specs.Demand3.{answerTo, trainWith}
 use Rattle.grammar.specs.Text.{lineWith, textOf}
 use Rattle.grammar.specs.Sheet.{SheetRead, refusedAt, whole, sheetOf}
-use Rattle.listing.specs.declared.Reply.{Reply}
+use Rattle.answers.specs.declared.Reply.{Reply}
 
 -- The cars of a sheet.
 

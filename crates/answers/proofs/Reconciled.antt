@@ -14,7 +14,6 @@ use Rattle.reading.specs.declared.letter.Line.{Line}
 use Rattle.reading.specs.Letter.{countOf}
 use Rattle.line.proofs.Bytes.{length-lineOf}
 use Rattle.table.specs.Table.{Table, tablesVerdict}
-use Rattle.table.specs.Layout.{tablesOf}
 use Rattle.car.specs.declared.Measured.{Measured}
 use Rattle.car.specs.Car.{carOf, measured}
 use Rattle.summing.specs.declared.Totals.{Totals}
@@ -29,23 +28,18 @@ use Rattle.train.proofs.Taken.{close}
 use Rattle.train.proofs.Order.{in-order}
 use Rattle.train.proofs.Book.{reconciled, reached-first, reached-sound, reached-four}
 use Rattle.grammar.specs.Text.{textOf}
-use Rattle.grammar.specs.Grammar.{EachCar, WholeSheet}
+use Rattle.grammar.specs.Grammar.{EachCar}
 use Rattle.grammar.specs.Sheet.{SheetRead, refusedAt, whole, sheetOf}
-use Rattle.grammar.specs.Proper.{Proper, ProperRefusal}
+use Rattle.grammar.specs.Proper.{Proper}
 use Rattle.grammar.specs.ByGrammar.{ReadByGrammar}
 use Rattle.grammar.proofs.Turns.{sheet-proper}
 use Rattle.grammar.proofs.ByGrammar.{by-grammar}
-use Rattle.sheet.specs.declared.Contents.{Contents}
-use Rattle.stepping.specs.declared.Outcome.{Outcome}
-use Rattle.stepping.specs.declared.Outcome.the-variants.{Whole, RefusedAt}
-use Rattle.sheet.specs.Layout.{readIn}
-use Rattle.stepping.specs.Layout.{carsOf, outcomeTold}
-use Rattle.listing.specs.Listing.{itemsOf, answerLine, totalsLine, gradeLines, totalsLines, sheetRefusedLine, linesFrom, answerLines, sheetNumber, leastBuffer, replyOf, afterAnswer}
-use Rattle.listing.specs.Reconciled.{Small, linesWith, EachAnswered, loadsOf, shownOf, totalsShown, gradesShown, SumOf, SheetReconciled}
-use Rattle.listing.specs.Paper.{PaperExample}
-use Rattle.listing.proofs.Lines.{Fit, car-fit, all-fit, sheet-refused-fit}
-use Rattle.listing.proofs.AgainstPaper.{paper-example}
-use Rattle.listing.proofs.Run.{number-small, text-most}
+use Rattle.answers.specs.Listing.{itemsOf, answerLine, totalsLine, gradeLines, totalsLines, sheetRefusedLine, linesFrom, answerLines, sheetNumber, leastBuffer, replyOf, afterAnswer}
+use Rattle.answers.specs.Reconciled.{Small, linesWith, EachAnswered, loadsOf, shownOf, totalsShown, gradesShown, SumOf, SheetReconciled}
+use Rattle.answers.specs.Paper.{PaperExample}
+use Rattle.answers.proofs.Lines.{Fit, car-fit, all-fit, sheet-refused-fit}
+use Rattle.answers.proofs.AgainstPaper.{paper-example}
+use Rattle.answers.proofs.Lengths.{number-small, text-most}
 
 lines-small : (ts : List Table) → tablesVerdict ts ≡ accepts → (t : Train) (cars : List (List ℕ)) → EachCar cars → Each Small (totalsLines (trainFrom t (itemsOf ts cars) .sums))
     → Each Small (linesFrom t (itemsOf ts cars))
@@ -157,18 +151,3 @@ module _ (s lent : List ℕ) where
         paper-example,
         by-grammar s,
       )
-
--- What the code holds once a sheet was read.
-
-module _ (s : List ℕ) (r : Contents) (l c f : List ℕ) (e : readIn r l c f ≡ sheetOf s) where
-  pub refused-read : {line number : ℕ} → r .outcome ≡ RefusedAt line number → refusedAt line number ≡ sheetOf s
-  refused-read o = sym (ap (λ (x : Outcome). outcomeTold x (tablesOf (r .directory) l c) (carsOf f (r .cars))) o) ∙ e
-
-  pub whole-read : r .outcome ≡ Whole → whole (tablesOf (r .directory) l c) (carsOf f (r .cars)) ≡ sheetOf s
-  whole-read o = sym (ap (λ (x : Outcome). outcomeTold x (tablesOf (r .directory) l c) (carsOf f (r .cars))) o) ∙ e
-
-  pub refused-proper : {line number : ℕ} → r .outcome ≡ RefusedAt line number → ProperRefusal (length s) line number
-  refused-proper o = rw (← refused-read o) at (sheet-proper s)
-
-  pub whole-proper : r .outcome ≡ Whole → WholeSheet (tablesOf (r .directory) l c) (carsOf f (r .cars))
-  whole-proper o = rw (← whole-read o) at (sheet-proper s)
