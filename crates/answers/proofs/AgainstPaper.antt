@@ -4,7 +4,7 @@ use Rattle.base.specs.Rounding.{rounded}
 use Rattle.field.specs.Field.{seenTo, fieldAt, justified, fieldOf}
 use Rattle.reading.specs.Reading.{letterOf, feed, feedAt, good, values, lineBy, lineAt}
 use Rattle.line.specs.Writing.{fieldsOf, lineOf}
-use Rattle.level.specs.Level.{meanLevel}
+use Rattle.dip.specs.Level.{meanLevel}
 use Rattle.capacity.specs.Capacity.{interpolated, capacityAt}
 use Rattle.capacity.specs.Capacity as capacity
 use Rattle.thermal.specs.Steps as thermal

@@ -11,7 +11,7 @@ use Rattle.base.specs.Limits.{inUnits}
 use Rattle.base.specs.Answer.{Test, accepts, refuses, first}
 use Rattle.base.proofs.Choice.{neither}
 use Rattle.base.proofs.Answer.{not-applied, accepted-parts}
-use Rattle.level.specs.Level.{readingsTests}
+use Rattle.dip.specs.Level.{readingsTests}
 use Rattle.table.specs.Table.{Table, tablesVerdict, unknown, lastLevel}
 use Rattle.table.proofs.Rising.{Rising, tables-rising}
 use Rattle.capacity.specs.Capacity.{above, levelTests}

@@ -4,7 +4,7 @@ use mathlib.Core.Path.{_≡_, refl, sym, ap, _∙_}
 use mathlib.Core.List.{List, [], _∷_, _++_}
 use Rattle.base.specs.Answer.{Test, Verdict, accepts, refuses, first, firstNumber, refusal, answer}
 use Rattle.base.proofs.Answer.{passed, answer-figures, refuses-append, refused-append, accepted-append, accepted-parts}
-use Rattle.level.specs.Level.{readingsTests}
+use Rattle.dip.specs.Level.{readingsTests}
 use Rattle.table.specs.Table.{Table, tablesTests, tablesVerdict}
 use Rattle.capacity.specs.Capacity.{kindTests, levelTests, volumeTests, volumeOn, volumeTold}
 use Rattle.capacity.specs.declared.Volume.{Volume}

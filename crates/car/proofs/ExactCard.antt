@@ -2,7 +2,7 @@
 use lib.Dec.{lit≤}
 use Rattle.base.specs.Fraction.{whole, _+ᶠ_, _-ᶠ_, _*ᶠ_, _/ᶠ_}
 use Rattle.base.specs.Rounding.{rounded}
-use Rattle.level.specs.Level.{meanLevel}
+use Rattle.dip.specs.Level.{meanLevel}
 use Rattle.capacity.specs.Exact.{interpolatedˣ, capacityAtˣ, v0ˣ}
 use Rattle.thermal.specs.Exact as thermal
 use Rattle.mass.specs.Steps.{stickCoefficient}

@@ -1,8 +1,8 @@
 -- The figures of the card of single operations, computed from the definitions.
 use mathlib.Core.Path.{refl}
 use Rattle.base.specs.Rounding.{rounded}
-use Rattle.level.specs.Level.{meanLevel, meanLevelAnswer}
-use Rattle.level.specs.Tape.{allowanceAnswer}
+use Rattle.dip.specs.Level.{meanLevel, meanLevelAnswer}
+use Rattle.dip.specs.Tape.{allowanceAnswer}
 use Rattle.capacity.specs.Capacity.{interpolated, capacityAt, volumeAnswer}
 use Rattle.capacity.specs.Capacity as capacity
 use Rattle.thermal.specs.Steps as thermal

@@ -5,7 +5,7 @@ use lib.ListN.{getD}
 use Rattle.base.specs.Limits.{largest}
 use Rattle.base.specs.Answer.{Test, refuseIf, first, Answer, figures, refusal, answer}
 use Rattle.base.specs.Numbers.{outside}
-use Rattle.level.specs.Level.{meanLevel, readingsTests}
+use Rattle.dip.specs.Level.{meanLevel, readingsTests}
 use Rattle.table.specs.Table.{Table, tablesTests}
 use Rattle.car.specs.declared.Car.{Car}
 use Rattle.car.specs.declared.Measured.{Measured}

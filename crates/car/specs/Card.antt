@@ -7,7 +7,7 @@ use lib.ListN.{take, drop}
 use Rattle.base.specs.Limits.{inUnits}
 use Rattle.base.specs.Answer.{Answer, figures, refusal}
 use Rattle.base.specs.Lists.{Each}
-use Rattle.level.specs.Tape.{allowanceAnswer}
+use Rattle.dip.specs.Tape.{allowanceAnswer}
 use Rattle.table.specs.Table.{Table}
 use Rattle.capacity.specs.Capacity.{capacityAnswer}
 use Rattle.thermal.specs.Steps.{exponent}

@@ -4,8 +4,8 @@ use mathlib.Core.List.{List, [], _∷_}
 use Rattle.base.specs.Limits.{inUnits}
 use Rattle.base.specs.Answer.{figures, refusal}
 use Rattle.base.specs.Lists.{Each}
-use Rattle.level.specs.Level.{meanLevelAnswer}
-use Rattle.level.specs.Tape.{allowanceAnswer}
+use Rattle.dip.specs.Level.{meanLevelAnswer}
+use Rattle.dip.specs.Tape.{allowanceAnswer}
 use Rattle.capacity.specs.Capacity.{capacityAnswer, volumeAnswer}
 use Rattle.thermal.specs.Answers.{expansionAnswer, factorAnswer, density20Answer}
 use Rattle.grades.specs.Answers.{gradeDensity20Answer, gradeOilAnswer, oilAnswer}

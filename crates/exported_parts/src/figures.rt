@@ -1,14 +1,14 @@
 // Operations that answer one figure: the mean level, the tape allowance, the density, the expansion and the share of oil.
-ghost use Rattle.level.specs.Level.{meanLevelAnswer};
-ghost use Rattle.level.specs.Tape.{allowanceAnswer};
+ghost use Rattle.dip.specs.Level.{meanLevelAnswer};
+ghost use Rattle.dip.specs.Tape.{allowanceAnswer};
 ghost use Rattle.thermal.specs.Answers.{expansionAnswer, factorAnswer, density20Answer};
 ghost use Rattle.grades.specs.Answers.{gradeDensity20Answer, gradeOilAnswer, oilAnswer};
 ghost use Rattle.exported_parts.specs.Handed.{lengthIs, sized, figureLeft, Handed};
 use crate::slices;
 use crate::slices::BAD_LENGTH;
+use dip::Allowance;
+use dip::MeanLevel;
 use grades::OilShare;
-use level::Allowance;
-use level::MeanLevel;
 use thermal::Density15;
 use thermal::DensityAt20;
 use thermal::Expansion;

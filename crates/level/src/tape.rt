@@ -1,8 +1,9 @@
 // The tape allowance (002, 14.1.1).
 ghost use mathlib.Core.Path.{_≡_};
-ghost use Rattle.level.specs.Tape.{allowanceAnswer, allowanceTold};
+ghost use Rattle.dip.specs.Tape.{allowanceAnswer, allowanceTold};
 use base::HIGHEST_LEVEL;
 use base::LEVEL_UNITS;
+use dip::Allowance;
 
 // In units of a mean level: the highest level that a tape takes, and a metre.
 const HIGHEST: u32 = LEVEL_UNITS * HIGHEST_LEVEL;
@@ -11,12 +12,6 @@ const METRE: u32 = LEVEL_UNITS * 1_000;
 
 // Hundredths of a millimetre, for 1, 2, 3, 4 whole and part metres.
 const ALLOWANCES: [u32; 4] = [30, 45, 60, 75];
-
-// An allowance in 0.01 mm, or the number of a refusal.
-pub enum Allowance {
-    HundredthsOfMillimetre(u32),
-    Refused(u32),
-}
 
 // The tape allowance for a level of 1 to 3,600 mm; refusal 16 for any other.
 pub fn tape_allowance(level: u32) -> Allowance

@@ -10,8 +10,8 @@ pub use line::read_line;
 pub use line::write_line;
 
 // Mean level and tape allowance.
-pub use level::Allowance;
-pub use level::MeanLevel;
+pub use dip::Allowance;
+pub use dip::MeanLevel;
 pub use level::mean_level;
 pub use level::tape_allowance;
 

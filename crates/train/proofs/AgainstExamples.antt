@@ -2,7 +2,7 @@
 use mathlib.Core.Path.{refl}
 use Rattle.base.specs.Rounding.{rounded}
 use Rattle.base.specs.Total.{total}
-use Rattle.level.specs.Level.{meanLevel}
+use Rattle.dip.specs.Level.{meanLevel}
 use Rattle.capacity.specs.Capacity.{interpolated, capacityAt}
 use Rattle.capacity.specs.Capacity as capacity
 use Rattle.thermal.specs.Steps as thermal

@@ -6,8 +6,8 @@ use lib.Dec.{ltb}
 use lib.ListN.{getD}
 use borrow.Author.Needs.{needs}
 use Rattle.base.proofs.Tests.{decide}
-use Rattle.level.specs.Level.{sorted, span}
-use Rattle.level.proofs.Sorting.{rising, closest-rising}
+use Rattle.dip.specs.Level.{sorted, span}
+use Rattle.dip.proofs.Sorting.{rising, closest-rising}
 use Rattle.level.proofs.are_scattered.Statement.{statement}
 use Rattle.level.proofs.are_scattered.Tie as tie
 

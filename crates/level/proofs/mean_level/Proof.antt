@@ -8,8 +8,8 @@ use borrow.Author.Needs.{needs}
 use borrow.Author.Tests.{eq-eqb, ne-eqb}
 use Rattle.base.specs.Answer.{refuseIf, first, firstNumber, answer, figures, refusal}
 use Rattle.base.proofs.Answer.{passed, refused-append, accepted-append}
-use Rattle.level.specs.Level.{meanLevel, readingsTests, meanLevelAnswer}
-use Rattle.level.proofs.Redip.{redip-right}
+use Rattle.dip.specs.Level.{meanLevel, readingsTests, meanLevelAnswer}
+use Rattle.dip.proofs.Redip.{redip-right}
 use Rattle.level.proofs.mean_level.Statement.{statement}
 use Rattle.level.proofs.mean_level.Tie as tie
 

@@ -1,7 +1,7 @@
 -- `level::mean_of` meets its contract: the test chooses, and what is chosen is what the call ensures.
 use mathlib.Core.Path.{_∙_, ap, sym}
 use borrow.Author.Needs.{needs}
-use Rattle.level.specs.Level.{meanLevel, meanOfThree}
+use Rattle.dip.specs.Level.{meanLevel, meanOfThree}
 use Rattle.level.proofs.mean_of.Statement.{statement}
 use Rattle.level.proofs.mean_of.Tie as tie
 

@@ -3,7 +3,7 @@ use mathlib.Core.Path.{_≡_, sym, ap, _∙_}
 use borrow.Author.Tests.{eq-eqb, ne-eqb}
 use borrow.Author.Needs.{needs}
 use denote.Ref.{now}
-use Rattle.level.specs.Level.{meanLevelTold, meanLevelAnswer}
+use Rattle.dip.specs.Level.{meanLevelTold, meanLevelAnswer}
 use Rattle.exported_parts.specs.Handed.{lengthIs, sized, figureLeft}
 use Rattle.exported_parts.proofs.Handed.{handed, right-sized, wrong-sized}
 use Rattle.exported_parts.proofs.figures.rack_mean_level.Statement.{statement}

@@ -1,7 +1,7 @@
 -- `level::tape_allowance` meets its contract: at each `return` the tests that led there give the verdict.
 use borrow.Author.Needs.{needs}
 use Rattle.base.proofs.Tests.{decide}
-use Rattle.level.specs.Tape.{allowanceAnswer}
+use Rattle.dip.specs.Tape.{allowanceAnswer}
 use Rattle.level.proofs.tape.tape_allowance.Statement.{statement}
 use Rattle.level.proofs.tape.tape_allowance.Tie as tie
 

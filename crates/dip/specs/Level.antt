@@ -7,8 +7,8 @@ use lib.ListN.{getD}
 use Rattle.base.specs.Rounding.{rounded}
 use Rattle.base.specs.Limits.{levelUnits}
 use Rattle.base.specs.Answer.{Test, refuseIf, first, Answer, figures, refusal, answer}
-use Rattle.level.specs.declared.MeanLevel.{MeanLevel}
-use Rattle.level.specs.declared.MeanLevel.the-variants.{Millimetres, Refused}
+use Rattle.dip.specs.declared.MeanLevel.{MeanLevel}
+use Rattle.dip.specs.declared.MeanLevel.the-variants.{Millimetres, Refused}
 
 -- a number put in its place among numbers in rising order
 abbrev pub inserted : ℕ → List ℕ → List ℕ

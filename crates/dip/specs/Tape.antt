@@ -5,8 +5,8 @@ use lib.ListN.{getD}
 use Rattle.base.specs.Limits.{highestLevel, levelUnits}
 use Rattle.base.specs.Numbers.{outside}
 use Rattle.base.specs.Answer.{refuseIf, first, Answer, figures, refusal, answer}
-use Rattle.level.specs.declared.tape.Allowance.{Allowance}
-use Rattle.level.specs.declared.tape.Allowance.the-variants.{HundredthsOfMillimetre, Refused}
+use Rattle.dip.specs.declared.Allowance.{Allowance}
+use Rattle.dip.specs.declared.Allowance.the-variants.{HundredthsOfMillimetre, Refused}
 
 -- 0.01 mm, for 1, 2, 3, 4 whole and part metres
 abbrev pub allowances : List ℕ

@@ -6,7 +6,7 @@ use mathlib.Core.List.{List, [], _∷_}
 use lib.Dec.{leb}
 use lib.ListN.{getD}
 use Rattle.base.specs.Answer.{Answer, refusal}
-use Rattle.level.specs.Level.{apart}
+use Rattle.dip.specs.Level.{apart}
 
 -- how many readings lie within the 3 mm from w on
 abbrev pub heldFrom : ℕ → List ℕ → ℕ

@@ -3,8 +3,8 @@ use mathlib.Core.Path.{_≡_, refl}
 use mathlib.Core.List.{[], _∷_}
 use Rattle.base.specs.Rounding.{rounded}
 use Rattle.base.specs.Answer.{figures, refusal}
-use Rattle.level.specs.Level.{meanLevel, meanLevelAnswer}
-use Rattle.level.specs.Tape.{allowanceAnswer}
+use Rattle.dip.specs.Level.{meanLevel, meanLevelAnswer}
+use Rattle.dip.specs.Tape.{allowanceAnswer}
 
 -- Levels in mm. The number of readings, the readings, and the answer.
 

@@ -10,9 +10,9 @@ use lib.Dec.{ltb, leb, eqb}
 use lib.ListN.{length, getD}
 use Rattle.base.specs.Answer.{refuseIf, first, Answer, refusal, answer}
 use Rattle.base.proofs.Choice.{below, never, both-hold, cond-either}
-use Rattle.level.specs.Level.{inserted, sorted, closestOf, apart, span, meanLevel, unusedBad, disagree, scattered, meanLevelAnswer}
-use Rattle.level.specs.Redip.{heldFrom, RedipRight}
-use Rattle.level.proofs.Sorting.{sort-four, elements-of-four, Rising, rising, of-closest}
+use Rattle.dip.specs.Level.{inserted, sorted, closestOf, apart, span, meanLevel, unusedBad, disagree, scattered, meanLevelAnswer}
+use Rattle.dip.specs.Redip.{heldFrom, RedipRight}
+use Rattle.dip.proofs.Sorting.{sort-four, elements-of-four, Rising, rising, of-closest}
 
 -- 1 for a reading within the 3 mm from w on, else 0
 abbrev within : ℕ → ℕ → ℕ
