@@ -5,10 +5,10 @@ use Rattle.field.specs.Field.{seenTo, fieldAt, justified, fieldOf}
 use Rattle.reading.specs.Reading.{letterOf, feed, feedAt, good, values, lineBy, lineAt}
 use Rattle.line.specs.Writing.{fieldsOf, lineOf}
 use Rattle.dip.specs.Level.{meanLevel}
-use Rattle.capacity.specs.Capacity.{interpolated, capacityAt}
-use Rattle.capacity.specs.Capacity as capacity
-use Rattle.thermal.specs.Steps as thermal
-use Rattle.mass.specs.Steps as steps
+use Rattle.gauging.specs.Capacity.{interpolated, capacityAt}
+use Rattle.gauging.specs.Capacity as capacity
+use Rattle.heating.specs.Steps as thermal
+use Rattle.kilograms.specs.Steps as steps
 use Rattle.car.specs.Measured.{measuredTests, v0, mass, sixFigures}
 use Rattle.car.specs.Car.{carTests}
 use Rattle.base.specs.Total.{total}

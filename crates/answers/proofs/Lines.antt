@@ -18,9 +18,9 @@ use Rattle.line.proofs.Bytes.{length-lineOf}
 use Rattle.table.specs.Table.{Table, tablesTests, tablesVerdict}
 use Rattle.table.proofs.Table.{tables-numbered}
 use Rattle.table.proofs.Rising.{tables-last-most}
-use Rattle.mass.specs.Inner.{mostColdVolume}
-use Rattle.mass.specs.Steps as steps
-use Rattle.mass.proofs.Bounds.{stickCoefficient-most, hotVolume-most, coldVolume-most}
+use Rattle.kilograms.specs.Inner.{mostColdVolume}
+use Rattle.kilograms.specs.Steps as steps
+use Rattle.kilograms.proofs.Bounds.{stickCoefficient-most, hotVolume-most, coldVolume-most}
 use Rattle.car.specs.declared.Car.{Car}
 use Rattle.car.specs.declared.Measured.{Measured}
 use Rattle.car.specs.Measured.{gross, net, v0, v15From, mass, measuredTests, sixFigures}

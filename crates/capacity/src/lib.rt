@@ -4,9 +4,3 @@ mod volumes;
 
 pub use volumes::checked_volume;
 pub use volumes::volume_on;
-
-// A volume in 0.01 dm³, or the refusal.
-pub enum Volume {
-    Hundredths(u32),
-    Refused(u32),
-}

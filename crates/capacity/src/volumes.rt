@@ -2,13 +2,13 @@
 ghost use mathlib.Core.Path.{_≡_};
 ghost use Rattle.table.specs.Layout.{tablesOf};
 ghost use Rattle.table.specs.Inner.{Good};
-ghost use Rattle.capacity.specs.Capacity.{capacityAnswer, volumeOn, volumeAnswer, volumeTold};
-use crate::Volume;
+ghost use Rattle.gauging.specs.Capacity.{capacityAnswer, volumeOn, volumeAnswer, volumeTold};
 use crate::rows::in_units;
 use crate::rows::interpolate;
 use crate::rows::least_mm;
 use crate::rows::skip_rows;
 use base::MOST_ROWS;
+use gauging::Volume;
 use table::Directory;
 use table::PLACES;
 

@@ -14,15 +14,15 @@ use Rattle.base.proofs.Answer.{not-applied, accepted-parts}
 use Rattle.dip.specs.Level.{readingsTests}
 use Rattle.table.specs.Table.{Table, tablesVerdict, unknown, lastLevel}
 use Rattle.table.proofs.Rising.{Rising, tables-rising}
-use Rattle.capacity.specs.Capacity.{above, levelTests}
-use Rattle.capacity.proofs.Capacity.{v0-near, v0-whole, v0ˣ-whole}
-use Rattle.grades.specs.Grades.{gradeBad, stickBad, oilTests}
-use Rattle.grades.specs.Inner.{FieldsInRange}
-use Rattle.grades.proofs.Limits.{fields-in-range}
-use Rattle.mass.specs.Inner.{InRange}
-use Rattle.mass.specs.Distance.{Shows}
-use Rattle.mass.proofs.Distance.{shown-near}
-use Rattle.mass.proofs.Uncut.{nothing-cut}
+use Rattle.gauging.specs.Capacity.{above, levelTests}
+use Rattle.gauging.proofs.Capacity.{v0-near, v0-whole, v0ˣ-whole}
+use Rattle.grading.specs.Grades.{gradeBad, stickBad, oilTests}
+use Rattle.grading.specs.Inner.{FieldsInRange}
+use Rattle.grading.proofs.Limits.{fields-in-range}
+use Rattle.kilograms.specs.Inner.{InRange}
+use Rattle.kilograms.specs.Distance.{Shows}
+use Rattle.kilograms.proofs.Distance.{shown-near}
+use Rattle.kilograms.proofs.Uncut.{nothing-cut}
 use Rattle.car.specs.declared.Car.{Car}
 use Rattle.car.specs.declared.Measured.{Measured}
 use Rattle.car.specs.Measured.{rows, earlyTests, lateTests, measuredTests, v0}

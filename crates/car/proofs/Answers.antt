@@ -6,11 +6,11 @@ use Rattle.base.specs.Answer.{Test, Verdict, accepts, refuses, first, firstNumb
 use Rattle.base.proofs.Answer.{passed, answer-figures, refuses-append, refused-append, accepted-append, accepted-parts}
 use Rattle.dip.specs.Level.{readingsTests}
 use Rattle.table.specs.Table.{Table, tablesTests, tablesVerdict}
-use Rattle.capacity.specs.Capacity.{kindTests, levelTests, volumeTests, volumeOn, volumeTold}
-use Rattle.capacity.specs.declared.Volume.{Volume}
-use Rattle.capacity.specs.declared.Volume.the-variants.{Hundredths, Refused}
-use Rattle.capacity.proofs.Answers.{volume-refused}
-use Rattle.grades.specs.Grades.{codeTests, oilTests}
+use Rattle.gauging.specs.Capacity.{kindTests, levelTests, volumeTests, volumeOn, volumeTold}
+use Rattle.gauging.specs.declared.Volume.{Volume}
+use Rattle.gauging.specs.declared.Volume.the-variants.{Hundredths, Refused}
+use Rattle.gauging.proofs.Answers.{volume-refused}
+use Rattle.grading.specs.Grades.{codeTests, oilTests}
 use Rattle.car.specs.declared.Car.{Car}
 use Rattle.car.specs.declared.Measured.{Measured}
 use Rattle.car.specs.Measured.{rows, earlyTests, lateTests, measuredTests, v0, figuresFrom, sixFigures}

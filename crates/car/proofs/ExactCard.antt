@@ -3,10 +3,10 @@ use lib.Dec.{lit≤}
 use Rattle.base.specs.Fraction.{whole, _+ᶠ_, _-ᶠ_, _*ᶠ_, _/ᶠ_}
 use Rattle.base.specs.Rounding.{rounded}
 use Rattle.dip.specs.Level.{meanLevel}
-use Rattle.capacity.specs.Exact.{interpolatedˣ, capacityAtˣ, v0ˣ}
-use Rattle.thermal.specs.Exact as thermal
-use Rattle.mass.specs.Steps.{stickCoefficient}
-use Rattle.mass.specs.Exact as mass
+use Rattle.gauging.specs.Exact.{interpolatedˣ, capacityAtˣ, v0ˣ}
+use Rattle.heating.specs.Exact as thermal
+use Rattle.kilograms.specs.Steps.{stickCoefficient}
+use Rattle.kilograms.specs.Exact as mass
 use Rattle.car.specs.Exact.{volumeˣ, massˣ}
 use Rattle.car.specs.ExactCard.{weights, ExactRight}
 

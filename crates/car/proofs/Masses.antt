@@ -4,9 +4,9 @@ use mathlib.Core.List.{List}
 use native.Mathlib.Nat.{le-trans}
 use Rattle.base.specs.Fraction.{Within}
 use Rattle.table.specs.Table.{Table}
-use Rattle.thermal.specs.Exact.{Power}
-use Rattle.mass.specs.Inner.{mostInCar}
-use Rattle.mass.proofs.Distance.{gross-within, net-within, gross-below, net-below}
+use Rattle.heating.specs.Exact.{Power}
+use Rattle.kilograms.specs.Inner.{mostInCar}
+use Rattle.kilograms.proofs.Distance.{gross-within, net-within, gross-below, net-below}
 use Rattle.car.specs.declared.Measured.{Measured}
 use Rattle.car.specs.Measured.{Mass, gross, net, mass, v0}
 use Rattle.car.specs.Exact.{volumeˣ, massˣ, distance}

@@ -3,9 +3,9 @@ use mathlib.Core.Path.{refl}
 use Rattle.base.specs.Rounding.{rounded}
 use Rattle.dip.specs.Level.{meanLevel, meanLevelAnswer}
 use Rattle.dip.specs.Tape.{allowanceAnswer}
-use Rattle.capacity.specs.Capacity.{interpolated, capacityAt, volumeAnswer}
-use Rattle.capacity.specs.Capacity as capacity
-use Rattle.thermal.specs.Steps as thermal
+use Rattle.gauging.specs.Capacity.{interpolated, capacityAt, volumeAnswer}
+use Rattle.gauging.specs.Capacity as capacity
+use Rattle.heating.specs.Steps as thermal
 use Rattle.car.specs.OperationsCard.{card, OperationsRight}
 
 pub operations-right : OperationsRight

@@ -9,10 +9,10 @@ use Rattle.base.specs.Answer.{Answer, figures, refusal}
 use Rattle.base.specs.Lists.{Each}
 use Rattle.dip.specs.Tape.{allowanceAnswer}
 use Rattle.table.specs.Table.{Table}
-use Rattle.capacity.specs.Capacity.{capacityAnswer}
-use Rattle.thermal.specs.Steps.{exponent}
-use Rattle.thermal.specs.Answers.{expansionAnswer, factorAnswer, density20Answer}
-use Rattle.mass.specs.Steps.{stickCoefficient, hotVolume}
+use Rattle.gauging.specs.Capacity.{capacityAnswer}
+use Rattle.heating.specs.Steps.{exponent}
+use Rattle.heating.specs.Answers.{expansionAnswer, factorAnswer, density20Answer}
+use Rattle.kilograms.specs.Steps.{stickCoefficient, hotVolume}
 use Rattle.car.specs.Car.{carOf, aloneAnswer}
 
 -- the table of document 01's sheet

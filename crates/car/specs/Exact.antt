@@ -5,14 +5,14 @@ use mathlib.Core.List.{List}
 use Rattle.base.specs.Limits.{inUnits}
 use Rattle.base.specs.Fraction.{Frac, _+ᶠ_, _≤ᶠ_}
 use Rattle.table.specs.Table.{Table, rowsOf}
-use Rattle.capacity.specs.Capacity.{capacityAt}
-use Rattle.capacity.specs.Capacity as capacity
-use Rattle.capacity.specs.Exact.{v0ˣ, capacityAtˣ}
-use Rattle.thermal.specs.Exact.{Power}
-use Rattle.mass.specs.Steps.{stickCoefficient}
-use Rattle.mass.specs.Exact.{grossOf, netOf}
-use Rattle.mass.specs.Uncut.{NothingCut}
-use Rattle.mass.specs.Distance.{grossDistance, netDistance}
+use Rattle.gauging.specs.Capacity.{capacityAt}
+use Rattle.gauging.specs.Capacity as capacity
+use Rattle.gauging.specs.Exact.{v0ˣ, capacityAtˣ}
+use Rattle.heating.specs.Exact.{Power}
+use Rattle.kilograms.specs.Steps.{stickCoefficient}
+use Rattle.kilograms.specs.Exact.{grossOf, netOf}
+use Rattle.kilograms.specs.Uncut.{NothingCut}
+use Rattle.kilograms.specs.Distance.{grossDistance, netDistance}
 use Rattle.car.specs.declared.Measured.{Measured}
 use Rattle.car.specs.Measured.{Mass, gross, net}
 

@@ -4,7 +4,7 @@ use mathlib.Core.List.{List, [], _∷_}
 use Rattle.base.specs.Fraction.{whole, _*ᶠ_, _≤ᶠ_}
 use Rattle.base.specs.Lists.{Each}
 use Rattle.table.specs.Table.{Table}
-use Rattle.thermal.specs.Exact.{Power, seven, eight}
+use Rattle.heating.specs.Exact.{Power, seven, eight}
 use Rattle.car.specs.declared.Measured.{Measured}
 use Rattle.car.specs.Measured.{Mass, gross, net}
 use Rattle.car.specs.Car.{carOf, measured}

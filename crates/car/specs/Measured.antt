@@ -3,10 +3,10 @@ use Prim.Native.Nat.{ℕ}
 use mathlib.Core.List.{List, [], _∷_, _++_}
 use Rattle.base.specs.Answer.{Test}
 use Rattle.table.specs.Table.{Row, Table, rowsOf}
-use Rattle.capacity.specs.Capacity.{kindTests, levelTests}
-use Rattle.capacity.specs.Capacity as capacity
-use Rattle.grades.specs.Grades.{codeTests, oilTests}
-use Rattle.mass.specs.Steps.{stickCoefficient, volume15Of, grossOf, netOf}
+use Rattle.gauging.specs.Capacity.{kindTests, levelTests}
+use Rattle.gauging.specs.Capacity as capacity
+use Rattle.grading.specs.Grades.{codeTests, oilTests}
+use Rattle.kilograms.specs.Steps.{stickCoefficient, volume15Of, grossOf, netOf}
 use Rattle.car.specs.declared.Measured.{Measured}
 
 -- the rows of its type

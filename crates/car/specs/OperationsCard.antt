@@ -6,9 +6,9 @@ use Rattle.base.specs.Answer.{figures, refusal}
 use Rattle.base.specs.Lists.{Each}
 use Rattle.dip.specs.Level.{meanLevelAnswer}
 use Rattle.dip.specs.Tape.{allowanceAnswer}
-use Rattle.capacity.specs.Capacity.{capacityAnswer, volumeAnswer}
-use Rattle.thermal.specs.Answers.{expansionAnswer, factorAnswer, density20Answer}
-use Rattle.grades.specs.Answers.{gradeDensity20Answer, gradeOilAnswer, oilAnswer}
+use Rattle.gauging.specs.Capacity.{capacityAnswer, volumeAnswer}
+use Rattle.heating.specs.Answers.{expansionAnswer, factorAnswer, density20Answer}
+use Rattle.grading.specs.Answers.{gradeDensity20Answer, gradeOilAnswer, oilAnswer}
 use Rattle.car.specs.Card.{cardTables, badType, badRow, Figure, gives}
 
 unfoldable pub card : List Figure

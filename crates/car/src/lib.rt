@@ -1,10 +1,5 @@
-// A car worked out on its capacity tables: its refusals in the listed order, or its six figures.
-use thermal::Density15;
-
-mod work; // work.rt: the refusals, then the figures
-
-pub use work::number_refusal;
-pub use work::work_on;
+// A car: its refusals in the listed order, its six figures, its exact value, and the rack card. It has definitions and proofs, and no code.
+use heating::Density15;
 
 // A car's fields as on its C line: type (kind), grade, stick, number of readings (count), readings and water level in mm,
 // oil temperature in 0.1 °C, density at 15 °C in 0.1 kg/m³, water and impurities in 0.01 %.

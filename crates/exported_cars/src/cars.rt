@@ -22,8 +22,8 @@ use crate::trains::TRAIN_PLACES;
 use car::Car;
 use car::CarAnswer;
 use exported_parts::BAD_LENGTH;
+use heating::Density15;
 use reading::MOST_FIELDS;
-use thermal::Density15;
 use train::Train;
 
 // How many numbers an accepted car shows.

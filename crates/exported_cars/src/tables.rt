@@ -2,12 +2,12 @@
 ghost use mathlib.Core.Path.{_≡_};
 ghost use lib.ListN.{length};
 ghost use Rattle.base.specs.Limits.{mostTables};
-ghost use Rattle.capacity.specs.Capacity.{volumeAnswer};
+ghost use Rattle.gauging.specs.Capacity.{volumeAnswer};
 ghost use Rattle.exported_parts.specs.Handed.{numberHanded, sized, figureLeft, Handed};
 ghost use Rattle.exported_cars.specs.Layout.{directoryOf, tablesLent, tablesSized, tablesAnswer};
 use base::MOST_TABLES;
-use capacity::Volume;
 use exported_parts::BAD_LENGTH;
+use gauging::Volume;
 use table::Directory;
 use table::PLACES;
 

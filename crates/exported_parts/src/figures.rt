@@ -1,18 +1,18 @@
 // Operations that answer one figure: the mean level, the tape allowance, the density, the expansion and the share of oil.
 ghost use Rattle.dip.specs.Level.{meanLevelAnswer};
 ghost use Rattle.dip.specs.Tape.{allowanceAnswer};
-ghost use Rattle.thermal.specs.Answers.{expansionAnswer, factorAnswer, density20Answer};
-ghost use Rattle.grades.specs.Answers.{gradeDensity20Answer, gradeOilAnswer, oilAnswer};
+ghost use Rattle.heating.specs.Answers.{expansionAnswer, factorAnswer, density20Answer};
+ghost use Rattle.grading.specs.Answers.{gradeDensity20Answer, gradeOilAnswer, oilAnswer};
 ghost use Rattle.exported_parts.specs.Handed.{lengthIs, sized, figureLeft, Handed};
 use crate::slices;
 use crate::slices::BAD_LENGTH;
 use dip::Allowance;
 use dip::MeanLevel;
-use grades::OilShare;
-use thermal::Density15;
-use thermal::DensityAt20;
-use thermal::Expansion;
-use thermal::Factor;
+use grading::OilShare;
+use heating::Density15;
+use heating::DensityAt20;
+use heating::Expansion;
+use heating::Factor;
 
 // The mean level, in mm, of so many of the four readings.
 #[no_mangle]

@@ -10,12 +10,12 @@ ghost use Rattle.exported_parts.specs.Handed.{lengthIs, sized, figureLef
 ghost use Rattle.exported_parts.specs.Lines.{letterNamed, numbersLeft, writeAnswerBy, afterWriteBy};
 use crate::slices;
 use crate::slices::BAD_LENGTH;
-use line::Line;
-use line::Reading;
 use line::Written;
 use reading::Found;
 use reading::Letter;
+use reading::Line;
 use reading::MOST_FIELDS;
+use reading::Reading;
 
 // A byte is no letter of a sheet or of an answer.
 const BAD_LETTER: u32 = 1_001;
@@ -31,11 +31,11 @@ pub extern "C" fn rack_read_line(text: &[u8], letter: &mut u8, numbers: &mut [u3
     if numbers.len() != MOST_FIELDS {
         return BAD_LENGTH;
     }
-    let read = line::read_line(text);
+    let read = lettering::read_line(text);
     let reading = read.reading;
     match reading {
         Reading::Read(found) => {
-            *letter = reading::byte_of(found);
+            *letter = scanning::byte_of(found);
             let fields = read.numbers;
             slices::copy(&fields, numbers);
             0
@@ -103,7 +103,7 @@ pub extern "C" fn rack_write_line(
                 letter: named,
                 numbers: fields,
             };
-            match line::write_line(out, line) {
+            match lettering::write_line(out, line) {
                 Written::Length(figure) => {
                     *written = figure;
                     0

@@ -1,27 +1,22 @@
 // The grades' limits (002, table 5): refusals 13 and 18 to 21 of document 01, the share of oil, and what callers may ask of a grade's fields.
 ghost use mathlib.Core.Path.{_≡_};
-ghost use Rattle.thermal.specs.Answers.{density20Told};
-ghost use Rattle.grades.specs.Grades.{oilShare};
-ghost use Rattle.grades.specs.Answers.{
+ghost use Rattle.heating.specs.Answers.{density20Told};
+ghost use Rattle.grading.specs.Grades.{oilShare};
+ghost use Rattle.grading.specs.Answers.{
   gradeDensity20Answer,
   oilTold,
   gradeOilAnswer,
   oilAnswer,
 };
-use thermal::Density15;
-use thermal::DensityAt20;
+use grading::OilShare;
+use heating::Density15;
+use heating::DensityAt20;
 
 mod refusals; // refusals.rt: the limits, and the refusals by their numbers
 
 // For the crate that works out a whole car: the pieces of its list of refusals.
 pub use refusals::code_refusal;
 pub use refusals::oil_refusal;
-
-// What is left beside water and impurities, in 0.01 %, or a refusal.
-pub enum OilShare {
-    Hundredths(u32),
-    Refused(u32),
-}
 
 // What is left beside water and impurities, all in 0.01 %; 0 where they are more than all.
 pub fn share_of_oil(water: u32, impurities: u32) -> u32

@@ -4,8 +4,8 @@ ghost use mathlib.Core.Bool.{_||_};
 ghost use mathlib.Core.List.{[], _∷_};
 ghost use lib.Dec.{ltb};
 ghost use Rattle.base.specs.Answer.{refuseIf, firstNumber};
-ghost use Rattle.thermal.specs.Inner.{DensityInRange};
-ghost use Rattle.grades.specs.Grades.{
+ghost use Rattle.heating.specs.Inner.{DensityInRange};
+ghost use Rattle.grading.specs.Grades.{
   byGrade,
   gradeTests,
   codeTests,
@@ -16,7 +16,7 @@ ghost use Rattle.grades.specs.Grades.{
   oilTests,
 };
 use base::GRADES;
-use thermal::Density15;
+use heating::Density15;
 use thermal::HIGHEST_TEMPERATURE;
 
 // By grade, 1 to 4, at index grade - 1: the lowest temperature in 0.1 °C, the most water and impurities in 0.01 %.

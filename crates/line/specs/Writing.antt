@@ -9,8 +9,8 @@ use Rattle.base.specs.Buffer.{put}
 use Rattle.base.specs.Limits.{largest}
 use Rattle.field.specs.Field.{fieldOf}
 use Rattle.reading.specs.declared.letter.Line.{Line}
-use Rattle.line.specs.declared.writing.Written.{Written}
-use Rattle.line.specs.declared.writing.Written.the-variants.{Length, Refused}
+use Rattle.line.specs.declared.Written.{Written}
+use Rattle.line.specs.declared.Written.the-variants.{Length, Refused}
 use Rattle.reading.specs.Letter.{byteOf, countOf, widthOf}
 
 unfoldable pub fieldsOf : List ℕ → List ℕ

@@ -8,8 +8,8 @@ use Rattle.base.specs.Answer.{figures, refusal}
 use Rattle.base.specs.Buffer.{put}
 use Rattle.base.proofs.Choice.{never}
 use Rattle.reading.specs.declared.letter.Line.{Line}
-use Rattle.line.specs.declared.writing.Written.{Written}
-use Rattle.line.specs.declared.writing.Written.the-variants.{Length, Refused}
+use Rattle.line.specs.declared.Written.{Written}
+use Rattle.line.specs.declared.Written.the-variants.{Length, Refused}
 use Rattle.reading.specs.Letter.{widthOf}
 use Rattle.line.specs.Writing.{lineOf, writable, writeAnswer, afterWrite, writtenTold}
 use Rattle.line.proofs.Bytes.{has-room, line-written, answered}

@@ -25,6 +25,7 @@ use base::GRADES;
 use base::MOST_CARS;
 use car::Car;
 use car::CarAnswer;
+use heating::Density15;
 use line::Written;
 use reading::Letter;
 use reading::Line;
@@ -35,14 +36,13 @@ use summing::Sums;
 use summing::Totals;
 use table::Directory;
 use table::PLACES;
-use thermal::Density15;
 use train::Tally;
 use train::Train;
 
 // The longest answer, in bytes, and so the least buffer: a line for each of sixty cars, S, and G for each grade.
-pub const LEAST_BUFFER: usize = MOST_CARS * reading::CAR_ACCEPTED_BYTES
-    + reading::TOTALS_BYTES
-    + GRADES * reading::GRADE_TOTALS_BYTES;
+pub const LEAST_BUFFER: usize = MOST_CARS * scanning::CAR_ACCEPTED_BYTES
+    + scanning::TOTALS_BYTES
+    + GRADES * scanning::GRADE_TOTALS_BYTES;
 
 // Number j of car i of the sheet, whose fourteen numbers stand from 14 i on.
 fn number_at(fields: &[u32; CAR_NUMBERS], i: usize, j: usize) -> u32
@@ -142,7 +142,7 @@ fn append_line(out: &mut [u8], at: usize, text: Line) -> usize
     requires { ⌜ writable text at (length (now out)) ≡ true ⌝ }
     ensures { λ r. ⌜ (r ≡ at + widthOf (text .letter)) × (now (out .exit) ≡ put (now (out .entry)) at (lineOf text)) ⌝ }
 {
-    match line::write_line_at(out, at, text) {
+    match lettering::write_line_at(out, at, text) {
         Written::Length(n) => at + n,
         Written::Refused(_) => at,
     }

@@ -2,25 +2,19 @@
 // Volumes are in 0.01 dm³, temperatures in 0.1 °C, masses in kg, water and impurities in 0.01 %.
 ghost use mathlib.Core.Path.{_≡_};
 ghost use Prim.Native.Nat.{_≤_};
-ghost use Rattle.thermal.specs.Inner.{DensityInRange};
-ghost use Rattle.thermal.specs.Limits.{lowestTemperature, highestTemperature};
-ghost use Rattle.mass.specs.Steps;
-ghost use Rattle.mass.specs.Distance.{greatestVolume};
-ghost use Rattle.mass.specs.Inner.{
+ghost use Rattle.heating.specs.Inner.{DensityInRange};
+ghost use Rattle.heating.specs.Limits.{lowestTemperature, highestTemperature};
+ghost use Rattle.kilograms.specs.Steps;
+ghost use Rattle.kilograms.specs.Distance.{greatestVolume};
+ghost use Rattle.kilograms.specs.Inner.{
   InRange,
   MassesWorked,
   mostCoefficient,
   mostHotVolume,
   mostColdVolume,
 };
-use thermal::Density15;
-
-// V15 in 0.01 dm³, gross and net in kg.
-pub struct Masses {
-    pub v15: u32,
-    pub gross: u32,
-    pub net: u32,
-}
+use heating::Density15;
+use kilograms::Masses;
 
 // Step 3: c for a stick; 0 for a stick that there is not.
 fn stick_coefficient(stick: u32) -> u32

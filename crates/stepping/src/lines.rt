@@ -16,13 +16,13 @@ use crate::store::store_car;
 use crate::store::store_row;
 use base::MOST_CARS;
 use base::MOST_ROWS;
-use reading::CAR_BYTES;
-use reading::END_BYTES;
 use reading::Letter;
 use reading::MOST_FIELDS;
-use reading::ROW_BYTES;
 use reading::Reading;
-use reading::TABLE_BYTES;
+use scanning::CAR_BYTES;
+use scanning::END_BYTES;
+use scanning::ROW_BYTES;
+use scanning::TABLE_BYTES;
 
 // A T line: 7, or one more table.
 fn table_line(reader: Reader, kind: u32, rows: u32) -> Stepped
@@ -138,7 +138,7 @@ pub fn read_step(
 {
     let d = reader.directory;
     let due = due_of(reader.owed, d.count, reader.cars);
-    let line = reading::read_line_at(s, reader.at, due);
+    let line = scanning::read_line_at(s, reader.at, due);
     let numbers = line.numbers;
     let reading = line.reading;
     match reading {

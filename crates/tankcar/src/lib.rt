@@ -1,13 +1,13 @@
 // The library: exactly the operations open to callers, and the types they take and answer. None of them asks anything of its caller.
 
 // Lines of a sheet.
-pub use line::Letter;
-pub use line::Line;
-pub use line::LineRead;
-pub use line::Reading;
+pub use lettering::read_line;
+pub use lettering::write_line;
 pub use line::Written;
-pub use line::read_line;
-pub use line::write_line;
+pub use reading::Letter;
+pub use reading::Line;
+pub use reading::LineRead;
+pub use reading::Reading;
 
 // Mean level and tape allowance.
 pub use dip::Allowance;
@@ -16,22 +16,22 @@ pub use level::mean_level;
 pub use level::tape_allowance;
 
 // Capacity tables and V0; PLACES rows have room in the arrays that are lent.
-pub use capacity::Volume;
 pub use capacity::checked_volume;
+pub use gauging::Volume;
 pub use table::Directory;
 pub use table::PLACES;
 pub use table::check_tables;
 
 // Temperature corrections and limits of a car's fields.
-pub use grades::OilShare;
 pub use grades::density_at_20_of_grade;
 pub use grades::oil_share;
 pub use grades::oil_share_any_grade;
-pub use thermal::Density15;
-pub use thermal::Density20;
-pub use thermal::DensityAt20;
-pub use thermal::Expansion;
-pub use thermal::Factor;
+pub use grading::OilShare;
+pub use heating::Density15;
+pub use heating::Density20;
+pub use heating::DensityAt20;
+pub use heating::Expansion;
+pub use heating::Factor;
 pub use thermal::density_at_20;
 pub use thermal::expansion_of;
 pub use thermal::factor_of;

@@ -1,6 +1,6 @@
 // How fuel oil and its density change with temperature: steps 4, 5, 6 and 9 of document 01, and what callers may ask of a density and a temperature.
 ghost use mathlib.Core.Path.{_≡_};
-ghost use Rattle.thermal.specs.Answers.{
+ghost use Rattle.heating.specs.Answers.{
   expansionTold,
   expansionAnswer,
   factorTold,
@@ -8,6 +8,10 @@ ghost use Rattle.thermal.specs.Answers.{
   density20Told,
   density20Answer,
 };
+use heating::Density15;
+use heating::DensityAt20;
+use heating::Expansion;
+use heating::Factor;
 
 mod refusals; // refusals.rt: the limits, and refusals 18 and 19 by their numbers
 mod steps; // steps.rt: steps 4, 5, 6 and 9
@@ -19,29 +23,6 @@ pub use refusals::outside_refusal;
 pub use steps::UNITY;
 pub use steps::density_20;
 pub use steps::factor_at;
-
-// A density at 15 °C and a density at 20 °C, in 0.1 kg/m³, each a type of its own: one is never taken for the other.
-pub struct Density15(pub u32);
-
-pub struct Density20(pub u32);
-
-// B in 10⁻⁹ per °C, or a refusal.
-pub enum Expansion {
-    Billionths(u32),
-    Refused(u32),
-}
-
-// E in 10⁻¹⁰, or a refusal.
-pub enum Factor {
-    TenBillionths(u64),
-    Refused(u32),
-}
-
-// The density at 20 °C, or a refusal.
-pub enum DensityAt20 {
-    Density(Density20),
-    Refused(u32),
-}
 
 // B of step 4, or 19.
 pub fn expansion_of(density: Density15) -> Expansion

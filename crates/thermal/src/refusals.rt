@@ -3,8 +3,8 @@ ghost use mathlib.Core.Path.{_≡_};
 ghost use mathlib.Core.List.{[], _∷_};
 ghost use Rattle.base.specs.Answer.{refuseIf, firstNumber};
 ghost use Rattle.base.specs.Numbers.{outside};
-ghost use Rattle.thermal.specs.Limits.{temperatureTestsAnyGrade, densityTests};
-use crate::Density15;
+ghost use Rattle.heating.specs.Limits.{temperatureTestsAnyGrade, densityTests};
+use heating::Density15;
 
 // The temperatures of every grade, in 0.1 °C.
 const LOWEST_TEMPERATURE: u32 = 200;

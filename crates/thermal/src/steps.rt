@@ -2,17 +2,17 @@
 ghost use mathlib.Core.Path.{_≡_};
 ghost use Prim.Native.Nat.{_+_, _*_, _≤_};
 ghost use Rattle.base.specs.Rounding.{rounded};
-ghost use Rattle.thermal.specs.Steps;
-ghost use Rattle.thermal.specs.Steps.{unity};
-ghost use Rattle.thermal.specs.Inner.{
+ghost use Rattle.heating.specs.Steps;
+ghost use Rattle.heating.specs.Steps.{unity};
+ghost use Rattle.heating.specs.Inner.{
   DensityInRange,
   mostAbove15,
   mostExpansion,
   mostExponent,
   mostFactor,
 };
-use crate::Density15;
-use crate::Density20;
+use heating::Density15;
+use heating::Density20;
 
 // 1, in the unit 10⁻¹⁰ of steps 5 to 9.
 pub const UNITY: u64 = 10_000_000_000;

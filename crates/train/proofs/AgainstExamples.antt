@@ -3,10 +3,10 @@ use mathlib.Core.Path.{refl}
 use Rattle.base.specs.Rounding.{rounded}
 use Rattle.base.specs.Total.{total}
 use Rattle.dip.specs.Level.{meanLevel}
-use Rattle.capacity.specs.Capacity.{interpolated, capacityAt}
-use Rattle.capacity.specs.Capacity as capacity
-use Rattle.thermal.specs.Steps as thermal
-use Rattle.mass.specs.Steps as steps
+use Rattle.gauging.specs.Capacity.{interpolated, capacityAt}
+use Rattle.gauging.specs.Capacity as capacity
+use Rattle.heating.specs.Steps as thermal
+use Rattle.kilograms.specs.Steps as steps
 use Rattle.car.specs.Measured.{measuredTests, v0, mass}
 use Rattle.car.specs.Car.{carTests, aloneTests, aloneAnswer}
 use Rattle.train.specs.Train.{unsound, full, admissionTests, enterTests, enterAnswer, enterTrain}

@@ -21,8 +21,8 @@ use Rattle.base.proofs.Numbers.{inside}
 use Rattle.base.proofs.Lists.{each-append, each-selected, map-append, length-map, selected-map}
 use Rattle.base.proofs.Total.{total-map, totalˣ-map, total-within, total-same, total-most}
 use Rattle.table.specs.Table.{Table, tablesTests, tablesVerdict}
-use Rattle.thermal.specs.Exact.{Power}
-use Rattle.mass.specs.Inner.{mostInCar}
+use Rattle.heating.specs.Exact.{Power}
+use Rattle.kilograms.specs.Inner.{mostInCar}
 use Rattle.car.specs.declared.Car.{Car}
 use Rattle.car.specs.Measured.{Mass, gross, net, mass, sixFigures}
 use Rattle.car.specs.Car.{numberTests, measured, carTests, figuresOf}

@@ -6,9 +6,9 @@ use native.Mathlib.Nat.{le-antisymm}
 use native.Mathlib.Omega.{arith}
 use Rattle.base.specs.Answer.{Answer, figures, refusal}
 use Rattle.table.specs.Table.{Table}
-use Rattle.capacity.proofs.Capacity.{v0-mono}
-use Rattle.mass.specs.Steps.{stickCoefficient}
-use Rattle.mass.proofs.Order.{volume15-rises, gross-rises, net-rises}
+use Rattle.gauging.proofs.Capacity.{v0-mono}
+use Rattle.kilograms.specs.Steps.{stickCoefficient}
+use Rattle.kilograms.proofs.Order.{volume15-rises, gross-rises, net-rises}
 use Rattle.car.specs.declared.Measured.{Measured}
 use Rattle.car.specs.Measured.{rows, v0, sixFigures}
 use Rattle.car.proofs.Accepted.{Passed, rising, low}

@@ -9,7 +9,7 @@ use Rattle.base.specs.Fraction.{Frac}
 use Rattle.base.specs.Numbers.{member}
 use Rattle.base.specs.Total.{selected}
 use Rattle.table.specs.Table.{Table, tablesTests}
-use Rattle.thermal.specs.Exact.{Power}
+use Rattle.heating.specs.Exact.{Power}
 use Rattle.car.specs.declared.Car.{Car}
 use Rattle.car.specs.declared.Measured.{Measured}
 use Rattle.car.specs.Measured.{Mass, gross, net}

@@ -7,7 +7,7 @@ use Rattle.base.specs.Answer.{Verdict, accepts, refuses, Answer, figures, refus
 use Rattle.base.specs.Fraction.{Within}
 use Rattle.base.specs.Total.{totalˣ}
 use Rattle.table.specs.Table.{Table, rowsOf}
-use Rattle.thermal.specs.Exact.{Power}
+use Rattle.heating.specs.Exact.{Power}
 use Rattle.car.specs.declared.Car.{Car}
 use Rattle.car.specs.declared.Measured.{Measured}
 use Rattle.car.specs.Measured.{Mass, gross, net}

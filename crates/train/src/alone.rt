@@ -31,9 +31,9 @@ pub fn work_out(
     if by_tables != 0 {
         return CarAnswer::Refused(by_tables);
     }
-    let by_number = car::number_refusal(car.number);
+    let by_number = working::number_refusal(car.number);
     if by_number != 0 {
         return CarAnswer::Refused(by_number);
     }
-    car::work_on(d, levels, capacities, car)
+    working::work_on(d, levels, capacities, car)
 }

@@ -129,7 +129,7 @@ fn place_refusal(held: u32, numbers: &[u32; MOST_CARS], number: u32) -> u32
     if MOST_CARS <= held as usize {
         return 9;
     }
-    let by_number = car::number_refusal(number);
+    let by_number = working::number_refusal(number);
     if by_number != 0 {
         return by_number;
     }
@@ -165,7 +165,7 @@ pub fn enter_on(
         };
     }
     let grade = car.grade;
-    let answer = car::work_on(d, levels, capacities, car);
+    let answer = working::work_on(d, levels, capacities, car);
     let before = tally.sums;
     let sums = summing::with_answer(before, grade, answer);
     let place = held as usize;

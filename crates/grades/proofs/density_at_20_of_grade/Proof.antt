@@ -6,9 +6,9 @@ use mathlib.Core.List.{_++_}
 use native.Mathlib.Omega.{arith}
 use Rattle.base.specs.Answer.{first}
 use Rattle.base.proofs.Answer.{by-number, alone-passes, refused-append}
-use Rattle.thermal.specs.Limits.{densityBad, densityTests}
-use Rattle.thermal.proofs.Limits.{density-in-range}
-use Rattle.grades.specs.Grades.{gradeBad, gradeTests, density20Bad, density20Tests}
+use Rattle.heating.specs.Limits.{densityBad, densityTests}
+use Rattle.heating.proofs.Limits.{density-in-range}
+use Rattle.grading.specs.Grades.{gradeBad, gradeTests, density20Bad, density20Tests}
 use Rattle.grades.proofs.density_at_20_of_grade.Statement.{statement}
 use Rattle.grades.proofs.density_at_20_of_grade.Tie as tie
 

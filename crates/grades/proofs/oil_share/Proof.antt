@@ -5,7 +5,7 @@ use mathlib.Core.Bool.{false}
 use native.Mathlib.Omega.{arith}
 use Rattle.base.specs.Answer.{first}
 use Rattle.base.proofs.Answer.{by-number, alone-passes, refused-append}
-use Rattle.grades.specs.Grades.{gradeBad, gradeTests, contentBad, contentTests}
+use Rattle.grading.specs.Grades.{gradeBad, gradeTests, contentBad, contentTests}
 use Rattle.grades.proofs.oil_share.Statement.{statement}
 use Rattle.grades.proofs.oil_share.Tie as tie
 

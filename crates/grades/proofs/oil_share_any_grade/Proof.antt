@@ -3,7 +3,7 @@ use borrow.Author.Needs.{needs}
 use mathlib.Core.Path.{refl}
 use Rattle.base.specs.Answer.{first}
 use Rattle.base.proofs.Answer.{by-number, passed}
-use Rattle.grades.specs.Grades.{contentTestsAnyGrade}
+use Rattle.grading.specs.Grades.{contentTestsAnyGrade}
 use Rattle.grades.proofs.oil_share_any_grade.Statement.{statement}
 use Rattle.grades.proofs.oil_share_any_grade.Tie as tie
 

@@ -3,9 +3,9 @@ use borrow.Author.Needs.{needs}
 use mathlib.Core.Path.{_≡_}
 use native.Mathlib.Nat.{mul-le-mul}
 use native.Mathlib.Omega.{arith}
-use Rattle.mass.specs.Steps
-use Rattle.mass.specs.Steps.{coldVolume}
-use Rattle.mass.proofs.Bounds.{coldVolume-most}
+use Rattle.kilograms.specs.Steps
+use Rattle.kilograms.specs.Steps.{coldVolume}
+use Rattle.kilograms.proofs.Bounds.{coldVolume-most}
 use Rattle.mass.proofs.cold_volume.Statement.{statement}
 use Rattle.mass.proofs.cold_volume.Tie as tie
 

@@ -2,8 +2,8 @@
 use borrow.Author.Needs.{needs}
 use native.Mathlib.Nat.{mul-le-mul}
 use native.Mathlib.Omega.{arith}
-use Rattle.mass.specs.Steps.{gross}
-use Rattle.mass.proofs.Bounds.{gross-most}
+use Rattle.kilograms.specs.Steps.{gross}
+use Rattle.kilograms.proofs.Bounds.{gross-most}
 use Rattle.mass.proofs.gross_mass.Statement.{statement}
 use Rattle.mass.proofs.gross_mass.Tie as tie
 

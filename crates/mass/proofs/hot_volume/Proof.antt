@@ -2,9 +2,9 @@
 use borrow.Author.Needs.{needs}
 use native.Mathlib.Nat.{mul-le-mul}
 use native.Mathlib.Omega.{arith}
-use Rattle.mass.specs.Steps.{hotVolume}
-use Rattle.mass.proofs.Budget.{swelling-most}
-use Rattle.mass.proofs.Bounds.{hotVolume-most}
+use Rattle.kilograms.specs.Steps.{hotVolume}
+use Rattle.kilograms.proofs.Budget.{swelling-most}
+use Rattle.kilograms.proofs.Bounds.{hotVolume-most}
 use Rattle.mass.proofs.hot_volume.Statement.{statement}
 use Rattle.mass.proofs.hot_volume.Tie as tie
 

@@ -2,11 +2,11 @@
 use borrow.Author.Needs.{needs}
 use mathlib.Core.Path.{_≡_}
 use Prim.Native.Nat.{_≤_}
-use Rattle.mass.specs.Inner.{mostCoefficient, mostHotVolume, mostColdVolume}
-use Rattle.mass.specs.Steps.{stickCoefficient, volume15Of, grossOf, netOf}
-use Rattle.mass.proofs.Bounds.{stickCoefficient-most, hotVolume-most, coldVolume-most}
-use Rattle.mass.proofs.Uncut.{nothing-cut}
-use Rattle.mass.proofs.Distance.{gross-within, net-within}
+use Rattle.kilograms.specs.Inner.{mostCoefficient, mostHotVolume, mostColdVolume}
+use Rattle.kilograms.specs.Steps.{stickCoefficient, volume15Of, grossOf, netOf}
+use Rattle.kilograms.proofs.Bounds.{stickCoefficient-most, hotVolume-most, coldVolume-most}
+use Rattle.kilograms.proofs.Uncut.{nothing-cut}
+use Rattle.kilograms.proofs.Distance.{gross-within, net-within}
 use Rattle.mass.proofs.masses_of.Statement.{statement}
 use Rattle.mass.proofs.masses_of.Tie as tie
 

@@ -4,8 +4,8 @@ use mathlib.Core.Path.{_≡_}
 use Prim.Native.Nat.{_≤_}
 use native.Mathlib.Nat.{mul-le-mul-left}
 use native.Mathlib.Omega.{arith}
-use Rattle.mass.specs.Steps.{net}
-use Rattle.mass.proofs.Bounds.{net-le-gross}
+use Rattle.kilograms.specs.Steps.{net}
+use Rattle.kilograms.proofs.Bounds.{net-le-gross}
 use Rattle.mass.proofs.net_mass.Statement.{statement}
 use Rattle.mass.proofs.net_mass.Tie as tie
 

@@ -1,6 +1,6 @@
 -- `mass::stick_coefficient` meets its contract: at each return the tests that led there decide those of the definition.
 use Rattle.base.proofs.Tests.{decide}
-use Rattle.mass.specs.Steps.{stickCoefficient}
+use Rattle.kilograms.specs.Steps.{stickCoefficient}
 use Rattle.mass.proofs.stick_coefficient.Statement.{statement}
 use Rattle.mass.proofs.stick_coefficient.Tie as tie
 

@@ -7,8 +7,8 @@ use native.Mathlib.Omega.{arith}
 use Rattle.base.specs.Answer.{first}
 use Rattle.base.proofs.Answer.{by-number, alone-passes, refused-append}
 use Rattle.base.proofs.Numbers.{inside}
-use Rattle.thermal.specs.Limits.{lowestTemperature, highestTemperature, temperatureBadAnyGrade, temperatureTestsAnyGrade, densityBad, densityTests}
-use Rattle.thermal.proofs.Limits.{density-in-range}
+use Rattle.heating.specs.Limits.{lowestTemperature, highestTemperature, temperatureBadAnyGrade, temperatureTestsAnyGrade, densityBad, densityTests}
+use Rattle.heating.proofs.Limits.{density-in-range}
 use Rattle.thermal.proofs.factor_of.Statement.{statement}
 use Rattle.thermal.proofs.factor_of.Tie as tie
 

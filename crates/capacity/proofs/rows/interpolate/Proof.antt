@@ -8,9 +8,9 @@ use borrow.Author.Needs.{needs}
 use denote.Ref.{now}
 use Rattle.base.specs.Limits.{inUnits, highestLevel, greatestCapacity}
 use Rattle.table.proofs.Rising.{Follows, follows}
-use Rattle.capacity.specs.Inner.{gapAt}
-use Rattle.capacity.specs.Capacity.{Gap, interpolated}
-use Rattle.capacity.proofs.Capacity.{interpolated-split, interpolated-most}
+use Rattle.gauging.specs.Inner.{gapAt}
+use Rattle.gauging.specs.Capacity.{Gap, interpolated}
+use Rattle.gauging.proofs.Capacity.{interpolated-split, interpolated-most}
 use Rattle.capacity.proofs.rows.interpolate.Statement.{statement}
 use Rattle.capacity.proofs.rows.interpolate.Tie as tie
 

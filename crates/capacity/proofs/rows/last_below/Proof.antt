@@ -6,7 +6,7 @@ use native.Mathlib.Omega.{arith}
 use borrow.Author.Needs.{needs}
 use denote.Ref.{now}
 use Rattle.table.specs.Layout.{places}
-use Rattle.capacity.specs.Inner.{RowBelow}
+use Rattle.gauging.specs.Inner.{RowBelow}
 use Rattle.capacity.proofs.rows.last_below.Statement.{statement}
 use Rattle.capacity.proofs.rows.last_below.Tie as tie
 

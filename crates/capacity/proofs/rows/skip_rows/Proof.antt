@@ -1,7 +1,7 @@
 -- `capacity::skip_rows` meets its contract: each step is from a row below the level to another.
 use borrow.Author.Needs.{needs}
 use native.Mathlib.Omega.{arith}
-use Rattle.capacity.proofs.Search.{row-below-on}
+use Rattle.gauging.proofs.Search.{row-below-on}
 use Rattle.capacity.proofs.rows.skip_rows.Statement.{statement}
 use Rattle.capacity.proofs.rows.skip_rows.Tie as tie
 

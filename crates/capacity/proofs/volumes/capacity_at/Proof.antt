@@ -18,10 +18,10 @@ use Rattle.table.specs.Layout.{places, rowsFrom, tableAt, tablesFrom}
 use Rattle.table.proofs.Table.{passing}
 use Rattle.table.proofs.Arrays.{one-left, none-left, rowAt, rows-first, rows-none, tables-step, tables-none, GoodTable, good-table}
 use Rattle.table.proofs.Rising.{First, first-row, rising-from}
-use Rattle.capacity.specs.Capacity.{interpolated, capacityAnswer, volumeTold}
-use Rattle.capacity.specs.Inner.{Reaches}
-use Rattle.capacity.specs.declared.Volume.the-variants.{Refused}
-use Rattle.capacity.proofs.Search.{foundAfter, none-reaches, row-passed, row-reaches, table-chosen, table-skipped, rows-skipped}
+use Rattle.gauging.specs.Capacity.{interpolated, capacityAnswer, volumeTold}
+use Rattle.gauging.specs.Inner.{Reaches}
+use Rattle.gauging.specs.declared.Volume.the-variants.{Refused}
+use Rattle.gauging.proofs.Search.{foundAfter, none-reaches, row-passed, row-reaches, table-chosen, table-skipped, rows-skipped}
 use Rattle.capacity.proofs.volumes.capacity_at.Statement.{statement}
 use Rattle.capacity.proofs.volumes.capacity_at.Tie as tie
 

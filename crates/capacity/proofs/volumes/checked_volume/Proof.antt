@@ -7,7 +7,7 @@ use Rattle.table.specs.Table.{Table}
 use Rattle.table.specs.Layout.{tablesOf}
 use Rattle.table.specs.Inner.{Good}
 use Rattle.table.proofs.Arrays.{good-tables}
-use Rattle.capacity.proofs.Answers.{tables-refused, tables-accepted}
+use Rattle.gauging.proofs.Answers.{tables-refused, tables-accepted}
 use Rattle.capacity.proofs.volumes.checked_volume.Statement.{statement}
 use Rattle.capacity.proofs.volumes.checked_volume.Tie as tie
 

@@ -11,9 +11,9 @@ use Rattle.base.proofs.Tests.{tests}
 use Rattle.table.specs.Table.{Table, rowsOf}
 use Rattle.table.specs.Layout.{tablesOf}
 use Rattle.table.proofs.Rising.{tables-rising}
-use Rattle.capacity.specs.Capacity.{v0, capacityAnswer, volumeOn, volumeTold}
-use Rattle.capacity.proofs.Capacity.{capacity-mono}
-use Rattle.capacity.proofs.Answers.{Reached, reached, not-refused, level-refused, Accepted, volume-found, water-refused}
+use Rattle.gauging.specs.Capacity.{v0, capacityAnswer, volumeOn, volumeTold}
+use Rattle.gauging.proofs.Capacity.{capacity-mono}
+use Rattle.gauging.proofs.Answers.{Reached, reached, not-refused, level-refused, Accepted, volume-found, water-refused}
 use Rattle.capacity.proofs.volumes.volume_on.Statement.{statement}
 use Rattle.capacity.proofs.volumes.volume_on.Tie as tie
 

@@ -5,7 +5,7 @@ use borrow.Author.Needs.{needs}
 use denote.Ref.{now}
 use Rattle.base.specs.Answer.{Answer}
 use Rattle.table.specs.Table.{Table}
-use Rattle.capacity.specs.Capacity.{volumeTold, volumeAnswer}
+use Rattle.gauging.specs.Capacity.{volumeTold, volumeAnswer}
 use Rattle.exported_parts.specs.Handed.{figureLeft, sized}
 use Rattle.exported_cars.specs.Layout.{tablesLent, tablesSized}
 use Rattle.exported_parts.proofs.Handed.{handed, right-sized, wrong-sized}

@@ -1,7 +1,7 @@
 -- `exported_parts::rack_expansion_of` meets its contract, by the two cases of the answer.
 use mathlib.Core.Path.{sym, ap, _∙_}
 use borrow.Author.Needs.{needs}
-use Rattle.thermal.specs.Answers.{expansionTold}
+use Rattle.heating.specs.Answers.{expansionTold}
 use Rattle.exported_parts.specs.Handed.{figureLeft}
 use Rattle.exported_parts.proofs.Handed.{handed}
 use Rattle.exported_parts.proofs.figures.rack_expansion_of.Statement.{statement}

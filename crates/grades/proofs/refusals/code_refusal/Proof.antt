@@ -2,7 +2,7 @@
 use borrow.Author.Needs.{needs}
 use native.Mathlib.Omega.{arith}
 use Rattle.base.proofs.Answer.{alone-applies, alone-passes}
-use Rattle.grades.specs.Grades.{gradeBad}
+use Rattle.grading.specs.Grades.{gradeBad}
 use Rattle.grades.proofs.refusals.code_refusal.Statement.{statement}
 use Rattle.grades.proofs.refusals.code_refusal.Tie as tie
 

@@ -5,9 +5,9 @@ use mathlib.Core.Bool.{false}
 use mathlib.Core.List.{_++_}
 use native.Mathlib.Omega.{arith}
 use Rattle.base.proofs.Answer.{alone-passes, number-stops}
-use Rattle.thermal.specs.Limits.{densityBad, densityTests}
-use Rattle.thermal.proofs.Limits.{density-in-range}
-use Rattle.grades.specs.Grades.{temperatureBad, temperatureTests, contentBad, contentTests, density20Tests}
+use Rattle.heating.specs.Limits.{densityBad, densityTests}
+use Rattle.heating.proofs.Limits.{density-in-range}
+use Rattle.grading.specs.Grades.{temperatureBad, temperatureTests, contentBad, contentTests, density20Tests}
 use Rattle.grades.proofs.refusals.oil_refusal.Statement.{statement}
 use Rattle.grades.proofs.refusals.oil_refusal.Tie as tie
 

@@ -3,9 +3,9 @@ use borrow.Author.Needs.{needs}
 use mathlib.Core.Path.{_≡_}
 use native.Mathlib.Nat.{mul-le-mul}
 use native.Mathlib.Omega.{arith}
-use Rattle.thermal.specs.Steps
-use Rattle.thermal.specs.Steps.{densityAt}
-use Rattle.thermal.proofs.Bounds.{density-most}
+use Rattle.heating.specs.Steps
+use Rattle.heating.specs.Steps.{densityAt}
+use Rattle.heating.proofs.Bounds.{density-most}
 use Rattle.thermal.proofs.steps.density_at.Statement.{statement}
 use Rattle.thermal.proofs.steps.density_at.Tie as tie
 

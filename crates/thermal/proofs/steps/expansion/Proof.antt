@@ -2,8 +2,8 @@
 use borrow.Author.Needs.{needs}
 use native.Mathlib.Nat.{mul-le-mul}
 use native.Mathlib.Omega.{arith}
-use Rattle.thermal.specs.Steps.{expansion}
-use Rattle.thermal.proofs.Bounds.{expansion-most}
+use Rattle.heating.specs.Steps.{expansion}
+use Rattle.heating.proofs.Bounds.{expansion-most}
 use Rattle.thermal.proofs.steps.expansion.Statement.{statement}
 use Rattle.thermal.proofs.steps.expansion.Tie as tie
 

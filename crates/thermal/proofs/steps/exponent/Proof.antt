@@ -2,8 +2,8 @@
 use borrow.Author.Needs.{needs}
 use native.Mathlib.Nat.{mul-le-mul}
 use native.Mathlib.Omega.{arith}
-use Rattle.thermal.specs.Steps.{exponent}
-use Rattle.thermal.proofs.Bounds.{exponent-most}
+use Rattle.heating.specs.Steps.{exponent}
+use Rattle.heating.proofs.Bounds.{exponent-most}
 use Rattle.thermal.proofs.steps.exponent.Statement.{statement}
 use Rattle.thermal.proofs.steps.exponent.Tie as tie
 

@@ -2,9 +2,9 @@
 use borrow.Author.Needs.{needs}
 use mathlib.Core.Path.{_≡_}
 use native.Mathlib.Omega.{arith}
-use Rattle.thermal.specs.Steps
-use Rattle.thermal.specs.Steps.{factor}
-use Rattle.thermal.proofs.Bounds.{expansion-most, exponent-most, factor-most}
+use Rattle.heating.specs.Steps
+use Rattle.heating.specs.Steps.{factor}
+use Rattle.heating.proofs.Bounds.{expansion-most, exponent-most, factor-most}
 use Rattle.thermal.proofs.steps.factor_at.Statement.{statement}
 use Rattle.thermal.proofs.steps.factor_at.Tie as tie
 

@@ -1,6 +1,6 @@
 -- `thermal::steps::series` meets its contract: what `next_term` ensures of each term bounds the next one.
 use borrow.Author.Needs.{needs}
-use Rattle.thermal.specs.Steps.{series, term}
+use Rattle.heating.specs.Steps.{series, term}
 use Rattle.thermal.proofs.steps.series.Statement.{statement}
 use Rattle.thermal.proofs.steps.series.Tie as tie
 

@@ -1,0 +1,31 @@
+-- What inner functions ask for; it is no part of what a capacity or a volume means.
+use Prim.Native.Nat.{ℕ, _+_, _≤_, _<_}
+use mathlib.Core.Path.{_≡_}
+use mathlib.Core.Bool.{false}
+use mathlib.Core.List.{List}
+use lib.ListN.{getD}
+use Rattle.base.specs.Limits.{levelUnits, inUnits}
+use Rattle.table.specs.Table.{rowOf, laterRowBad}
+use Rattle.gauging.specs.Capacity.{Gap}
+
+-- the least whole mm that reaches a level: the level is at most `inUnits h` exactly where mm is at most h
+pub record Reaches (level mm : ℕ) : Type 0 where
+  pub enough : level ≤ inUnits mm
+  pub least : inUnits mm < level + levelUnits
+
+-- a row from `low` to `last` that is `low` or does not reach `reach` mm
+pub record RowBelow (levels : List ℕ) (low last reach r : ℕ) : Type 0 where
+  pub from : low ≤ r
+  pub to : r ≤ last
+  pub below : low < r → getD levels r 0 < reach
+
+-- row i and the next
+abbrev pub gapAt : List ℕ → List ℕ → ℕ → Gap
+gapAt levels capacities i =
+    record { low = rowOf (getD levels i 0) (getD capacities i 0); high = rowOf (getD levels (i + 1) 0) (getD capacities (i + 1) 0) }
+
+-- two rows as they follow one another in a table that is not refused, and a level from the lower to the higher
+pub record Between (g : Gap) (level : ℕ) : Type 0 where
+  pub follows : laterRowBad (g .low) (g .high) ≡ false
+  pub passed : inUnits (g .low .level) ≤ level
+  pub reached : level ≤ inUnits (g .high .level)

@@ -1,0 +1,21 @@
+-- What inner functions ask for; it is no part of what steps 4 to 6 and 9 mean.
+use Prim.Native.Nat.{ℕ, _-_, _≤_}
+use Rattle.heating.specs.Limits.{highestTemperature, lowestDensity, highestDensity}
+
+-- the density r at 15 °C is in the range of refusal 19
+pub record DensityInRange (r : ℕ) : Type 0 where
+  pub light : lowestDensity ≤ r
+  pub dense : r ≤ highestDensity
+
+-- the most tenths of a degree above 15 °C, and then the most of B, X and E, in their units
+abbrev pub mostAbove15 : ℕ
+mostAbove15 = highestTemperature - 150
+
+abbrev pub mostExpansion : ℕ
+mostExpansion = 771_027
+
+abbrev pub mostExponent : ℕ
+mostExponent = 605_021_969
+
+abbrev pub mostFactor : ℕ
+mostFactor = 10_018_308_166

@@ -1,0 +1,25 @@
+// How fuel oil and its density change with temperature: steps 4, 5, 6 and 9 of document 01, with refusals 18 and 19. It has definitions
+// and proofs, and no code.
+
+// A density at 15 °C and a density at 20 °C, in 0.1 kg/m³, each a type of its own: one is never taken for the other.
+pub struct Density15(pub u32);
+
+pub struct Density20(pub u32);
+
+// B in 10⁻⁹ per °C, or a refusal.
+pub enum Expansion {
+    Billionths(u32),
+    Refused(u32),
+}
+
+// E in 10⁻¹⁰, or a refusal.
+pub enum Factor {
+    TenBillionths(u64),
+    Refused(u32),
+}
+
+// The density at 20 °C, or a refusal.
+pub enum DensityAt20 {
+    Density(Density20),
+    Refused(u32),
+}

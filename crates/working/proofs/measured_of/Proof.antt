@@ -1,0 +1,13 @@
+-- `working::measured_of` meets its contract: step 1 gives the level.
+use borrow.Author.Needs.{needs}
+use Rattle.working.proofs.measured_of.Statement.{statement}
+use Rattle.working.proofs.measured_of.Tie as tie
+
+mean-of-requires : tie.Need-mean-of-requires
+mean-of-requires c κs = search needs
+
+returns : tie.Need-returns
+returns c = rw (c .mean-of .ensures)
+
+pub measured-of-spec : {M : Type 1} → statement M
+measured-of-spec = tie.close (tie.spec mean-of-requires returns)
