@@ -36,7 +36,7 @@ pub extern "C" fn rack_mean_level(count: u32, readings: &[u32], level: &mut u32)
 pub extern "C" fn rack_tape_allowance(level: u32, allowance: &mut u32) -> u32
     ensures { λ r. ⌜ Handed figureLeft (allowanceAnswer level) r (now (allowance .entry)) (now (allowance .exit)) ⌝ }
 {
-    match level::tape_allowance(level) {
+    match tape::tape_allowance(level) {
         Allowance::HundredthsOfMillimetre(figure) => {
             *allowance = figure;
             0

@@ -25,9 +25,9 @@ use Rattle.stepping.proofs.Arrays.{length-cars}
 use Rattle.grammar.specs.Text.{textOf}
 use Rattle.answers.specs.Listing.{itemsOf, answerLine, totalsLines, linesFrom, leastBuffer}
 use Rattle.answers.proofs.Lengths.{number-small, text-most}
-use Rattle.listing.specs.Inner.{Closing}
+use Rattle.printing.specs.Inner.{Closing}
 use Rattle.answers.proofs.Lines.{Fit, car-fit}
-use Rattle.listing.proofs.Laid.{Laid, none-laid, line-room, line-laid}
+use Rattle.printing.proofs.Laid.{Laid, none-laid, line-room, line-laid}
 
 -- the lines of a whole sheet, and their bytes
 abbrev pub sheetLines : List Table → List (List ℕ) → List Line

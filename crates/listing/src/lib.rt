@@ -1,25 +1,20 @@
 // A sheet answered: the listing of its cars, or the line that says why it is turned away.
 ghost use mathlib.Core.Path.{_≡_};
-ghost use mathlib.Core.Bool.{true};
-ghost use mathlib.Core.List.{[], _∷_};
 ghost use Prim.Native.Nat.{_+_, _*_, _≤_, _<_};
 ghost use lib.ListN.{length, getD, take, drop};
 ghost use Rattle.base.specs.Buffer.{put};
-ghost use Rattle.reading.specs.Letter.{widthOf};
-ghost use Rattle.line.specs.Writing.{lineOf, writable};
-ghost use Rattle.base.specs.Limits.{largest, mostCars};
+ghost use Rattle.base.specs.Limits.{mostCars};
 ghost use Rattle.table.specs.Layout.{tablesOf};
-ghost use Rattle.car.specs.Car.{carOf, carTold};
+ghost use Rattle.car.specs.Car.{carOf};
 ghost use Rattle.train.specs.Train.{emptyTrain};
-ghost use Rattle.summing.specs.Inner.{Low};
 ghost use Rattle.grammar.specs.Text.{textOf};
 ghost use Rattle.grammar.specs.Sheet.{sheetOf};
 ghost use Rattle.grammar.specs.ByGrammar.{ReadByGrammar};
 ghost use Rattle.stepping.specs.Layout.{carsOf};
-ghost use Rattle.answers.specs.Listing.{itemsOf, answerLine, totalsLine, gradeLine, totalsLines, sheetRefusedLine, linesFrom, leastBuffer, replyOf, afterAnswer};
+ghost use Rattle.answers.specs.Listing.{itemsOf, linesFrom, leastBuffer, replyOf, afterAnswer};
 ghost use Rattle.answers.specs.Reconciled.{SheetReconciled};
 ghost use Rattle.answers.specs.Paper.{PaperExample};
-ghost use Rattle.listing.specs.Inner.{Ready, Closing};
+ghost use Rattle.listing.specs.Inner.{Ready};
 use answers::Reply;
 use base::GRADES;
 use base::MOST_CARS;
@@ -77,96 +72,6 @@ fn car_at(fields: &[u32; CAR_NUMBERS], i: usize) -> Car
     }
 }
 
-// The A or X line of the car of this number.
-fn answer_line(number: u32, answer: CarAnswer) -> Line
-    ensures { λ r. ⌜ r ≡ answerLine number (carTold answer) ⌝ }
-{
-    let mut numbers = [0u32; MOST_FIELDS];
-    match answer {
-        CarAnswer::Accepted(f) => {
-            numbers[0] = f.number;
-            numbers[1] = f.level;
-            numbers[2] = f.v0;
-            numbers[3] = f.v15;
-            numbers[4] = f.gross;
-            numbers[5] = f.net;
-            Line {
-                letter: Letter::CarAccepted,
-                numbers,
-            }
-        }
-        CarAnswer::Refused(n) => {
-            numbers[0] = number;
-            numbers[1] = n;
-            Line {
-                letter: Letter::CarRefused,
-                numbers,
-            }
-        }
-    }
-}
-
-// The S line.
-fn totals_line(t: Totals) -> Line
-    requires { ⌜ Low t ⌝ }
-    ensures { λ r. ⌜ r ≡ totalsLine t ⌝ }
-{
-    let mut numbers = [0u32; MOST_FIELDS];
-    numbers[0] = t.accepted;
-    numbers[1] = t.gross as u32;
-    numbers[2] = t.net as u32;
-    Line {
-        letter: Letter::Totals,
-        numbers,
-    }
-}
-
-// The G line of a grade.
-fn grade_line(grade: u32, t: Totals) -> Line
-    requires { ⌜ Low t ⌝ }
-    ensures { λ r. ⌜ r ≡ gradeLine grade t ⌝ }
-{
-    let mut numbers = [0u32; MOST_FIELDS];
-    numbers[0] = grade;
-    numbers[1] = t.accepted;
-    numbers[2] = t.gross as u32;
-    numbers[3] = t.net as u32;
-    Line {
-        letter: Letter::GradeTotals,
-        numbers,
-    }
-}
-
-// Writes a line that has room from `at` on, and answers the place behind it.
-fn append_line(out: &mut [u8], at: usize, text: Line) -> usize
-    requires { ⌜ writable text at (length (now out)) ≡ true ⌝ }
-    ensures { λ r. ⌜ (r ≡ at + widthOf (text .letter)) × (now (out .exit) ≡ put (now (out .entry)) at (lineOf text)) ⌝ }
-{
-    match lettering::write_line_at(out, at, text) {
-        Written::Length(n) => at + n,
-        Written::Refused(_) => at,
-    }
-}
-
-// Writes S and the G lines, grades rising, from `at` on, and answers the place behind them.
-fn write_totals(out: &mut [u8], at: usize, sums: Sums) -> usize
-    requires { ⌜ Closing sums at (length (now out)) ⌝ }
-    ensures { λ r. ⌜
-        (r ≡ at + length (textOf (totalsLines sums)))
-        × (now (out .exit) ≡ put (now (out .entry)) at (textOf (totalsLines sums)))
-        ⌝ }
-{
-    let all = sums.all;
-    let mut place = append_line(out, at, totals_line(all));
-    let mut i: usize = 0;
-    while i < GRADES {
-        let of_grade = sums.grades[i];
-        place = append_line(out, place, grade_line(i as u32 + 1, of_grade));
-        i += 1;
-    }
-    place
-}
-
 // Writes the listing: a line for each car, entered one after another, then the totals. Answers its length.
 fn write_listing(
     out: &mut [u8],
@@ -196,29 +101,11 @@ fn write_listing(
         let entered = train::enter_on(tally, &mut numbers, d, levels, capacities, car);
         let answer = entered.answer;
         tally = entered.tally;
-        at = append_line(out, at, answer_line(car.number, answer));
+        at = printing::append_line(out, at, printing::answer_line(car.number, answer));
         i += 1;
     }
     let sums = tally.sums;
-    write_totals(out, at, sums)
-}
-
-// Writes the Z line: the line number and the refusal.
-fn write_refused(out: &mut [u8], line: u32, number: u32) -> usize
-    requires { ⌜ (leastBuffer ≤ length (now out)) × (line ≤ largest) × (number ≤ largest) ⌝ }
-    ensures { λ r. ⌜ (r ≡ length (textOf (sheetRefusedLine line number ∷ []))) × (now (out .exit) ≡ put (now (out .entry)) 0 (textOf (sheetRefusedLine line number ∷ []))) ⌝ }
-{
-    let mut numbers = [0u32; MOST_FIELDS];
-    numbers[0] = line;
-    numbers[1] = number;
-    append_line(
-        out,
-        0,
-        Line {
-            letter: Letter::SheetRefused,
-            numbers,
-        },
-    )
+    printing::write_totals(out, at, sums)
 }
 
 // Answers a sheet into a lent buffer: the listing of its cars, or its Z line; 1 where the buffer has fewer than 3,541 bytes, and
@@ -243,7 +130,7 @@ pub fn answer_sheet(text: &[u8], out: &mut [u8]) -> Reply
     let outcome = head.outcome;
     match outcome {
         Outcome::RefusedAt(line, number) => {
-            let length = write_refused(out, line, number);
+            let length = printing::write_refused(out, line, number);
             Reply { length, number }
         }
         Outcome::Whole => {

@@ -4,8 +4,7 @@ ghost use Prim.Native.Nat.{_+_, _*_, _≤_};
 ghost use lib.ListN.{length};
 ghost use Rattle.field.specs.Field.{columns};
 ghost use Rattle.reading.specs.Letter.{mostFields};
-ghost use Rattle.reading.specs.Reading.{letterIf, letterOf, feedAt, numbersAt, refusedLine, lineAt, noRow, rowAt};
-use base::LARGEST;
+ghost use Rattle.reading.specs.Reading.{letterIf, letterOf, feedAt, numbersAt, refusedLine, lineAt};
 use field::COLUMNS;
 use field::Field;
 use reading::Due;
@@ -14,7 +13,6 @@ use reading::Letter;
 use reading::LineRead;
 use reading::MOST_FIELDS;
 use reading::Numbers;
-use reading::Pair;
 use reading::Reading;
 
 mod widths; // widths.rt: the letters' bytes, and the lengths of their lines
@@ -30,11 +28,6 @@ pub use widths::TABLE_BYTES;
 pub use widths::TOTALS_BYTES;
 pub use widths::byte_of;
 pub use widths::count_of;
-
-// Where the capacity and the line feed of an R line stand, behind its start.
-const ROW_CAPACITY: usize = 1 + COLUMNS;
-
-const ROW_FEED: usize = ROW_BYTES - 1;
 
 fn letter_if(due: bool, letter: Letter) -> Found
     ensures { λ r. ⌜ r ≡ letterIf due letter ⌝ }
@@ -170,34 +163,4 @@ pub fn read_line_at(s: &[u8], at: usize, due: Due) -> LineRead
         }
     }
     find_line_at(s, at, due)
-}
-
-fn no_row() -> Pair
-    ensures { λ r. ⌜ r ≡ noRow ⌝ }
-{
-    Pair {
-        good: false,
-        first: 0,
-        second: 0,
-    }
-}
-
-// The R line that starts at `at`, where there is one as it should be.
-pub fn row_at(s: &[u8], at: usize) -> Pair
-    ensures { λ r. ⌜ r ≡ rowAt (now (s .entry)) at ⌝ }
-{
-    if at < s.len() && ROW_FEED < s.len() - at && s[at] == b'R' && s[at + ROW_FEED] == 10 {
-        let first = quick::short_field(s, at + 1);
-        if first <= LARGEST {
-            let second = quick::long_field(s, at + ROW_CAPACITY);
-            if second <= LARGEST {
-                return Pair {
-                    good: true,
-                    first,
-                    second,
-                };
-            }
-        }
-    }
-    no_row()
 }

@@ -20,7 +20,7 @@ use stepping::store_row;
 fn next_row(s: &[u8], at: usize, level0: u32, capacity0: u32) -> Pair
     ensures { λ r. ⌜ (r .good ≡ true → (lineAt (now (s .entry)) at rowOnly ≡ rowRead (r .first) (r .second)) × (laterRowBad (rowOf level0 capacity0) (rowOf (r .first) (r .second)) ≡ false)) ⌝ }
 {
-    let p = scanning::row_at(s, at);
+    let p = rowline::row_at(s, at);
     if p.good {
         if table::later_row_bad(level0, capacity0, p.first, p.second) {
             return Pair {

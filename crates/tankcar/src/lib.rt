@@ -13,7 +13,7 @@ pub use reading::Reading;
 pub use dip::Allowance;
 pub use dip::MeanLevel;
 pub use level::mean_level;
-pub use level::tape_allowance;
+pub use tape::tape_allowance;
 
 // Capacity tables and V0; PLACES rows have room in the arrays that are lent.
 pub use capacity::checked_volume;

@@ -1,0 +1,3 @@
+pub mod Appending
+pub mod Laid
+pub mod Totals
