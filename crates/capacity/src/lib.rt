@@ -94,7 +94,7 @@ pub fn checked_volume(
 ) -> Volume
     ensures { λ r. ⌜ volumeTold r ≡ volumeAnswer (tablesOf d (now (levels .entry)) (now (capacities .entry))) kind mean water ⌝ }
 {
-    let refusal = table::check_tables(d, levels, capacities);
+    let refusal = tabletests::check_tables(d, levels, capacities);
     if refusal != 0 {
         return Volume::Refused(refusal);
     }

@@ -56,7 +56,7 @@ pub extern "C" fn rack_check_tables(
         let d = directory_of(count, types, rows);
         let level_places = exported_parts::all_places(levels);
         let capacity_places = exported_parts::all_places(capacities);
-        return table::check_tables(d, &level_places, &capacity_places);
+        return tabletests::check_tables(d, &level_places, &capacity_places);
     }
     BAD_LENGTH
 }

@@ -8,9 +8,9 @@ use Rattle.grammar.specs.Grammar.{WholeSheet}
 use Rattle.grammar.specs.Sheet.{refusedAt, whole, sheetOf}
 use Rattle.grammar.specs.Proper.{ProperRefusal}
 use Rattle.grammar.proofs.Turns.{sheet-proper}
-use Rattle.stepping.specs.declared.Outcome.{Outcome}
-use Rattle.stepping.specs.declared.Outcome.the-variants.{Whole, RefusedAt}
-use Rattle.stepping.specs.Layout.{carsOf, outcomeTold}
+use Rattle.holding.specs.declared.Outcome.{Outcome}
+use Rattle.holding.specs.declared.Outcome.the-variants.{Whole, RefusedAt}
+use Rattle.holding.specs.Layout.{carsOf, outcomeTold}
 use Rattle.sheet.specs.declared.Contents.{Contents}
 use Rattle.sheet.specs.Layout.{readIn}
 

@@ -19,9 +19,9 @@ use Rattle.train.specs.Train.{emptyTrain, enterAnswer, enterTrain}
 use Rattle.train.specs.Book.{car}
 use Rattle.train.specs.Inner.{Reached}
 use Rattle.train.proofs.Book.{reached-first, reached-next, reached-sound, reached-four}
-use Rattle.stepping.specs.Layout.{carsFrom, carsOf}
+use Rattle.holding.specs.Layout.{carsFrom, carsOf}
 use Rattle.grammar.specs.Grammar.{EachCar}
-use Rattle.stepping.proofs.Arrays.{length-cars}
+use Rattle.holding.proofs.Arrays.{length-cars}
 use Rattle.grammar.specs.Text.{textOf}
 use Rattle.answers.specs.Listing.{itemsOf, answerLine, totalsLines, linesFrom, leastBuffer}
 use Rattle.answers.proofs.Lengths.{number-small, text-most}

@@ -4,7 +4,7 @@ use mathlib.Core.List.{List}
 use Rattle.base.specs.Limits.{mostCars}
 use Rattle.table.specs.declared.Directory.{Directory}
 use Rattle.table.specs.Inner.{Good}
-use Rattle.stepping.specs.Layout.{carsOf}
+use Rattle.holding.specs.Layout.{carsOf}
 use Rattle.grammar.specs.Grammar.{EachCar}
 use Rattle.answers.specs.Listing.{leastBuffer}
 

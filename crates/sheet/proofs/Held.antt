@@ -12,14 +12,14 @@ use Rattle.grammar.specs.ByGrammar.{Refusal, ReadByGrammar}
 use Rattle.grammar.specs.Inner.{SoundState}
 use Rattle.grammar.proofs.Turns.{sheet-proper}
 use Rattle.grammar.proofs.ByGrammar.{by-grammar}
-use Rattle.stepping.specs.declared.Outcome.the-variants.{Whole, RefusedAt}
+use Rattle.holding.specs.declared.Outcome.the-variants.{Whole, RefusedAt}
 use Rattle.sheet.specs.declared.Contents.{Contents}
-use Rattle.stepping.specs.declared.reader.Reader.{Reader}
-use Rattle.stepping.specs.Layout.{carsOf}
+use Rattle.holding.specs.declared.reader.Reader.{Reader}
+use Rattle.holding.specs.Layout.{carsOf}
 use Rattle.sheet.specs.Layout.{readIn, Held}
-use Rattle.stepping.specs.Inner.{stateIn, Bounds, SoundReader}
-use Rattle.stepping.proofs.Arrays.{length-cars}
-use Rattle.stepping.proofs.Room.{few-tables, owing}
+use Rattle.holding.specs.Inner.{stateIn, Bounds, SoundReader}
+use Rattle.holding.proofs.Arrays.{length-cars}
+use Rattle.holding.proofs.Room.{few-tables, owing}
 
 -- While the reading goes on.
 

@@ -22,9 +22,9 @@ use Rattle.grammar.specs.Inner.{SoundState, Onward}
 use Rattle.grammar.proofs.Rules.{row-taken}
 use Rattle.grammar.proofs.Turns.{went-on}
 use Rattle.grammar.proofs.Only.{read-next}
-use Rattle.stepping.specs.declared.reader.Reader.{Reader}
-use Rattle.stepping.specs.Inner.{stateIn, Owing, Bounds, SoundReader, readerAt, Stored}
-use Rattle.stepping.proofs.Arrays.{stored-at, rows-held, row-more}
+use Rattle.holding.specs.declared.reader.Reader.{Reader}
+use Rattle.holding.specs.Inner.{stateIn, Owing, Bounds, SoundReader, readerAt, Stored}
+use Rattle.holding.proofs.Arrays.{stored-at, rows-held, row-more}
 use Rattle.sheet.proofs.Held.{sound-state}
 
 stay : (s : List ℕ) (st : State) → SoundState (length s) st → Onward s st st

@@ -8,8 +8,8 @@ use Rattle.table.specs.Inner.{Good}
 use Rattle.grammar.specs.Grammar.{EachCar}
 use Rattle.grammar.specs.Sheet.{SheetRead}
 use Rattle.grammar.specs.ByGrammar.{Refusal}
-use Rattle.stepping.specs.declared.Outcome.the-variants.{Whole, RefusedAt}
-use Rattle.stepping.specs.Layout.{carsOf, outcomeTold}
+use Rattle.holding.specs.declared.Outcome.the-variants.{Whole, RefusedAt}
+use Rattle.holding.specs.Layout.{carsOf, outcomeTold}
 use Rattle.sheet.specs.declared.Contents.{Contents}
 
 -- what the contents tell

@@ -8,13 +8,13 @@ ghost use Rattle.sheet.specs.Layout.{readIn, Held};
 use base::MOST_CARS;
 use base::MOST_ROWS;
 use base::MOST_TABLES;
+use holding::CAR_NUMBERS;
+use holding::Outcome;
+use holding::Progress;
 use scanning::CAR_BYTES;
 use scanning::END_BYTES;
 use scanning::ROW_BYTES;
 use scanning::TABLE_BYTES;
-use stepping::CAR_NUMBERS;
-use stepping::Outcome;
-use stepping::Progress;
 use table::Directory;
 
 mod rows; // rows.rt: the rows of a table, taken one after another
@@ -47,7 +47,7 @@ pub fn read_sheet(
         × ReadByGrammar (now (s .entry))
         ⌝ }
 {
-    let mut reader = stepping::started();
+    let mut reader = holding::started();
     if LONGEST_SHEET < s.len() {
         let directory = reader.directory;
         return Contents {

@@ -8,13 +8,13 @@ ghost use lib.ListN.{length};
 ghost use Rattle.reading.specs.Reading.{lineAt, rowOnly, rowRead};
 ghost use Rattle.table.specs.Table.{rowOf, laterRowBad};
 ghost use Rattle.grammar.specs.Inner.{Onward};
-ghost use Rattle.stepping.specs.Inner.{stateIn, Bounds, SoundReader};
+ghost use Rattle.holding.specs.Inner.{stateIn, Bounds, SoundReader};
 use base::MOST_ROWS;
+use holding::Reader;
+use holding::reader_at;
+use holding::store_row;
 use reading::Pair;
 use scanning::ROW_BYTES;
-use stepping::Reader;
-use stepping::reader_at;
-use stepping::store_row;
 
 // The R line at `at`, where there is one that may follow the row `level0`, `capacity0`; else good is false.
 fn next_row(s: &[u8], at: usize, level0: u32, capacity0: u32) -> Pair
@@ -22,7 +22,7 @@ fn next_row(s: &[u8], at: usize, level0: u32, capacity0: u32) -> Pair
 {
     let p = rowline::row_at(s, at);
     if p.good {
-        if table::later_row_bad(level0, capacity0, p.first, p.second) {
+        if rowtests::later_row_bad(level0, capacity0, p.first, p.second) {
             return Pair {
                 good: false,
                 first: 0,

@@ -1,12 +1,4 @@
-// Capacity tables: up to four, each of up to 400 rows, held to 7 and 8.
-mod tests;
-
-pub use tests::check_tables;
-pub use tests::first_row_bad;
-pub use tests::knows_type;
-pub use tests::later_row_bad;
-pub use tests::row_bad;
-pub use tests::table_line_bad;
+// Capacity tables: up to four, each of up to 400 rows, and what 7 and 8 ask of them. It has definitions and proofs, and no code.
 
 // How many rows there is room for: as many for each table as one may have.
 pub const PLACES: usize = base::MOST_TABLES * base::MOST_ROWS;

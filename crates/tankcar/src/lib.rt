@@ -20,7 +20,7 @@ pub use capacity::checked_volume;
 pub use gauging::Volume;
 pub use table::Directory;
 pub use table::PLACES;
-pub use table::check_tables;
+pub use tabletests::check_tables;
 
 // Temperature corrections and limits of a car's fields.
 pub use grades::density_at_20_of_grade;

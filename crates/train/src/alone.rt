@@ -27,7 +27,7 @@ pub fn work_out(
         × AllRight × OperationsRight × TablesRight × ExactRight × OrderExample
         ⌝ }
 {
-    let by_tables = table::check_tables(d, levels, capacities);
+    let by_tables = tabletests::check_tables(d, levels, capacities);
     if by_tables != 0 {
         return CarAnswer::Refused(by_tables);
     }

@@ -86,7 +86,7 @@ impl Train {
             × EnterOrder
             ⌝ }
     {
-        let refusal = table::check_tables(d, levels, capacities);
+        let refusal = tabletests::check_tables(d, levels, capacities);
         if refusal != 0 {
             return Step {
                 answer: CarAnswer::Refused(refusal),

@@ -55,7 +55,7 @@ fn measured_of(car: Car) -> Measured
 fn early_refusal(d: Directory, m: Measured) -> u32
     ensures { λ r. ⌜ ((levels capacities : List ℕ) → Good d levels capacities → r ≡ firstNumber (earlyTests (tablesOf d levels capacities) m)) ⌝ }
 {
-    if table::knows_type(d, m.kind) {
+    if tabletests::knows_type(d, m.kind) {
         return grades::code_refusal(m.grade, m.stick);
     }
     12

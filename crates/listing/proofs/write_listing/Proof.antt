@@ -8,7 +8,7 @@ use borrow.Author.Needs.{needs}
 use denote.Ref.{now}
 use Rattle.table.specs.Table.{Table}
 use Rattle.table.specs.Layout.{tablesOf}
-use Rattle.stepping.specs.Layout.{carsOf}
+use Rattle.holding.specs.Layout.{carsOf}
 use Rattle.car.specs.declared.Car.{Car}
 use Rattle.train.specs.declared.Train.{Train}
 use Rattle.train.specs.Train.{enterAnswer, enterTrain}

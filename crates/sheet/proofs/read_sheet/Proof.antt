@@ -9,10 +9,10 @@ use Rattle.grammar.specs.ByGrammar.{tooLong}
 use Rattle.grammar.specs.Inner.{SoundState, LinesRead, Onward}
 use Rattle.grammar.proofs.Turns.{sheet-long, sheet-short, sound-start, went-on, is-over}
 use Rattle.grammar.proofs.Only.{Explained, read-next, read-over, start-read}
-use Rattle.stepping.specs.declared.reader.Progress.{Progress}
-use Rattle.stepping.specs.declared.Outcome.the-variants.{RefusedAt}
-use Rattle.stepping.specs.Layout.{outcomeTold}
-use Rattle.stepping.specs.Inner.{stateIn, stepBy}
+use Rattle.holding.specs.declared.reader.Progress.{Progress}
+use Rattle.holding.specs.declared.Outcome.the-variants.{RefusedAt}
+use Rattle.holding.specs.Layout.{outcomeTold}
+use Rattle.holding.specs.Inner.{stateIn, stepBy}
 use Rattle.sheet.proofs.Held.{sound-reader, bounded, finish}
 use borrow.Author.Needs.{needs}
 use Rattle.sheet.proofs.read_sheet.Statement.{statement}

@@ -5,7 +5,7 @@ use native.Mathlib.Omega.{arith}
 use denote.Ref.{now}
 use lib.ListN.{length}
 use Rattle.base.specs.Limits.{mostTables, mostRows}
-use Rattle.stepping.specs.Inner.{Owing}
+use Rattle.holding.specs.Inner.{Owing}
 use Rattle.sheet.proofs.Taken.{Taken, taken-none, taken-start, taken-more}
 use borrow.Author.Needs.{needs}
 use Rattle.sheet.proofs.rows.take_rows.Statement.{statement}
