@@ -1,4 +1,4 @@
-// Fuel oil from V0 to kilograms: steps 3, 7 and 8 of document 01 in 64-bit arithmetic, each equal to its definition in specs/Steps.antt.
+// Fuel oil from V0 to kilograms: steps 3, 7 and 8 of document 01 in 64-bit arithmetic, each equal to its definition in `kilograms`.
 // Volumes are in 0.01 dm³, temperatures in 0.1 °C, masses in kg, water and impurities in 0.01 %.
 ghost use mathlib.Core.Path.{_≡_};
 ghost use Prim.Native.Nat.{_≤_};

@@ -1,4 +1,4 @@
-// Steps 4, 5, 6 and 9 of document 01 in 64-bit arithmetic, each equal to its definition in specs/Steps.antt.
+// Steps 4, 5, 6 and 9 of document 01 in 64-bit arithmetic, each equal to its definition in `heating`.
 ghost use mathlib.Core.Path.{_≡_};
 ghost use Prim.Native.Nat.{_+_, _*_, _≤_};
 ghost use Rattle.base.specs.Rounding.{rounded};
