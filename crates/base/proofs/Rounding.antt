@@ -19,11 +19,15 @@ pub round-mono : {m n : ℕ} (d : ℕ) → 0 < d → m ≤ n → rounded m d ≤
 unfolding rounded
 round-mono {m} d p h = le-div-iff-mul-le {k = 2 * d} (omega arith) .1 (omega (arith, div-mul-le-self (2 * m + d) (2 * d)))
 
+-- a quotient less than half a unit above a whole number is rounded to that number at most
+pub round-most : (n : ℕ) {d : ℕ} (k : ℕ) → 0 < d → 2 * n < (2 * k + 1) * d → rounded n d ≤ k
+unfolding rounded
+round-most n {d} k p h =
+    omega (arith, div-lt-iff-lt-mul {k = 2 * d} {x = 2 * n + d} {y = k + 1} (omega arith) .1 (omega arith))
+
 -- a whole number that bounds the quotient bounds the rounded quotient, from above and from below
 pub round-le : {n d : ℕ} (k : ℕ) → 0 < d → n ≤ k * d → rounded n d ≤ k
-unfolding rounded
-round-le {n} {d} k p h =
-    omega (arith, div-lt-iff-lt-mul {k = 2 * d} {x = 2 * n + d} {y = k + 1} (omega arith) .1 (omega arith))
+round-le {n} {d} k p h = round-most n k p (omega arith)
 
 pub le-round : {n d : ℕ} (k : ℕ) → 0 < d → k * d ≤ n → k ≤ rounded n d
 unfolding rounded

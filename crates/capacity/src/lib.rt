@@ -4,17 +4,58 @@ ghost use mathlib.Core.Path.{_≡_};
 ghost use Rattle.table.specs.Layout.{tablesOf};
 ghost use Rattle.table.specs.Inner.{Good};
 ghost use Rattle.gauging.specs.Capacity.{capacityAnswer, volumeOn, volumeAnswer, volumeTold};
+ghost use Rattle.gauging.specs.Inner.{RowsFound};
 use base::MOST_ROWS;
+use gauging::Around;
 use gauging::Volume;
 use interpolating::in_units;
 use interpolating::interpolate;
 use interpolating::least_mm;
+use interpolating::neighbours;
 use interpolating::skip_rows;
 use table::Directory;
 use table::PLACES;
 
-// R of 100 times the capacity at a level, in 0.01 dm³, on the table of a type. Refused with 12 where no table has the type, with
-// 16 where no row reaches the level.
+// The rows around a level on the table of a type. Refused with 12 where no table has the type, with 16 where no row reaches the
+// level.
+pub fn rows_around(
+    d: Directory,
+    levels: &[u32; PLACES],
+    capacities: &[u32; PLACES],
+    kind: u32,
+    level: u32,
+) -> Around
+    requires { ⌜ Good d (now levels) (now capacities) ⌝ }
+    ensures { λ r. ⌜ RowsFound (tablesOf d (now (levels .entry)) (now (capacities .entry))) kind level r ⌝ }
+{
+    let types = d.types;
+    let rows = d.rows;
+    let count = d.count as usize;
+    let reach = least_mm(level);
+    let mut found = Around::Refused(12);
+    let mut k: usize = 0;
+    'tables: while k < count {
+        if types[k] == kind {
+            let start = MOST_ROWS * k;
+            let last = start + rows[k] as usize - 1;
+            let mut low = skip_rows(levels, start, last, reach);
+            while low < last {
+                let high = low + 1;
+                if reach <= levels[high] {
+                    found = Around::Rows(neighbours(levels, capacities, low));
+                    break 'tables;
+                }
+                low = high;
+            }
+            found = Around::Refused(16);
+            break 'tables;
+        }
+        k += 1;
+    }
+    found
+}
+
+// R of 100 times the capacity at a level, in 0.01 dm³, on the table of a type, or 12 or 16.
 fn capacity_at(
     d: Directory,
     levels: &[u32; PLACES],
@@ -25,31 +66,10 @@ fn capacity_at(
     requires { ⌜ Good d (now levels) (now capacities) ⌝ }
     ensures { λ r. ⌜ volumeTold r ≡ capacityAnswer (tablesOf d (now (levels .entry)) (now (capacities .entry))) kind level ⌝ }
 {
-    let types = d.types;
-    let rows = d.rows;
-    let count = d.count as usize;
-    let reach = least_mm(level);
-    let mut found = Volume::Refused(12);
-    let mut k: usize = 0;
-    'tables: while k < count {
-        if types[k] == kind {
-            let start = MOST_ROWS * k;
-            let last = start + rows[k] as usize - 1;
-            let mut low = skip_rows(levels, start, last, reach);
-            while low < last {
-                let high = low + 1;
-                if reach <= levels[high] {
-                    found = Volume::Hundredths(interpolate(levels, capacities, low, level));
-                    break 'tables;
-                }
-                low = high;
-            }
-            found = Volume::Refused(16);
-            break 'tables;
-        }
-        k += 1;
+    match rows_around(d, levels, capacities, kind, level) {
+        Around::Rows(rows) => Volume::Hundredths(interpolate(rows, level)),
+        Around::Refused(number) => Volume::Refused(number),
     }
-    found
 }
 
 // V0, in 0.01 dm³, of oil between the water level (mm) and the mean level (units), on the table of a type; or the refusal: 12,

@@ -12,7 +12,7 @@ use Rattle.base.specs.Answer.{Test, accepts, refuses, first}
 use Rattle.base.proofs.Choice.{neither}
 use Rattle.base.proofs.Answer.{not-applied, accepted-parts}
 use Rattle.dip.specs.Level.{readingsTests}
-use Rattle.table.specs.Table.{Table, tablesVerdict, unknown, lastLevel}
+use Rattle.table.specs.Table.{Table, tablesTests, tablesVerdict, unknown, lastLevel}
 use Rattle.table.proofs.Rising.{Rising, tables-rising}
 use Rattle.gauging.specs.Capacity.{above, levelTests}
 use Rattle.gauging.proofs.Capacity.{v0-near, v0-whole, v0ˣ-whole}
@@ -26,7 +26,7 @@ use Rattle.kilograms.proofs.Uncut.{nothing-cut}
 use Rattle.car.specs.declared.Car.{Car}
 use Rattle.car.specs.declared.Measured.{Measured}
 use Rattle.car.specs.Measured.{rows, earlyTests, lateTests, measuredTests, v0}
-use Rattle.car.specs.Car.{carOf, measured, carTests}
+use Rattle.car.specs.Car.{carOf, numberTests, measured, carTests, aloneTests}
 use Rattle.car.specs.Card.{cardTables}
 use Rattle.car.specs.Exact.{volumeˣ, Uncut}
 
@@ -53,6 +53,13 @@ passed-car {ts} c good e =
     let p = accepted-parts (readings ++ lateTests ts (measured c)) (earlyTests ts (measured c)) e in
     record { tables = good; early = p .0; late = accepted-parts (lateTests ts (measured c)) readings (p .1) .1 }
 
+-- a car alone
+pub passed-alone : {ts : List Table} (c : Car) → first (aloneTests ts c) ≡ accepts → Passed ts (measured c)
+unfolding aloneTests
+passed-alone {ts} c e =
+    let p = accepted-parts (numberTests (c .number) ++ carTests ts c) (tablesTests ts) e in
+    passed-car c (p .0) (accepted-parts (carTests ts c) (numberTests (c .number)) (p .1) .1)
+
 pub grade-known : (ts : List Table) (m : Measured) → first (earlyTests ts m) ≡ accepts → gradeBad (m .grade) ≡ false
 grade-known ts m e = neither (gradeBad (m .grade)) (stickBad (m .stick)) (not-applied 13 (earlyTests ts m) e) .0
 
@@ -61,7 +68,7 @@ module _ (ts : List Table) (m : Measured) (h : Passed ts m) where
   pub known : unknown (m .kind) ts ≡ false
   known = not-applied 12 (earlyTests ts m) (h .early)
 
-  level-in : (0 < m .level) × (m .level ≤ inUnits (lastLevel (rows ts m)))
+  pub level-in : (0 < m .level) × (m .level ≤ inUnits (lastLevel (rows ts m)))
   level-in =
       let p = neither (eqb (m .level) 0) (above (rows ts m) (m .level)) (not-applied 16 (lateTests ts m) (h .late)) in
       let n = eqb-false (m .level) 0 (p .0) in

@@ -59,19 +59,19 @@ abbrev refused : ℕ → List ℕ → Figure
 refused n ns = gives (aloneAnswer cardTables (carOf ns)) (refusal n)
 
 -- the first car of document 01's sheet
-abbrev firstCar : List ℕ
+abbrev pub firstCar : List ℕ
 firstCar = 50_000_001 ∷ 1 ∷ 3 ∷ 1 ∷ 2 ∷ 1_500 ∷ 1_500 ∷ 0 ∷ 0 ∷ 0 ∷ 600 ∷ 9_500 ∷ 50 ∷ 20 ∷ []
 
 -- with another number
-abbrev withNumber : ℕ → List ℕ
+abbrev pub withNumber : ℕ → List ℕ
 withNumber number = number ∷ drop 1 firstCar
 
 -- with another type, grade and stick
-abbrev withCodes : ℕ → ℕ → ℕ → List ℕ
+abbrev pub withCodes : ℕ → ℕ → ℕ → List ℕ
 withCodes kind grade stick = take 1 firstCar ++ (kind ∷ grade ∷ stick ∷ drop 4 firstCar)
 
 -- with another number of readings, four other readings and water level, in mm
-abbrev withDip : ℕ → ℕ → ℕ → ℕ → ℕ → ℕ → List ℕ
+abbrev pub withDip : ℕ → ℕ → ℕ → ℕ → ℕ → ℕ → List ℕ
 withDip count a b c d water = take 4 firstCar ++ (count ∷ a ∷ b ∷ c ∷ d ∷ water ∷ drop 10 firstCar)
 
 -- with four readings of which no three agree
@@ -79,7 +79,7 @@ abbrev scatteredDip : List ℕ → List ℕ
 scatteredDip ns = take 4 ns ++ (4 ∷ 1_500 ∷ 1_510 ∷ 1_520 ∷ 1_530 ∷ drop 9 ns)
 
 -- with another grade, temperature, density at 15 °C, water and impurities
-abbrev withOil : ℕ → ℕ → ℕ → ℕ → ℕ → List ℕ
+abbrev pub withOil : ℕ → ℕ → ℕ → ℕ → ℕ → List ℕ
 withOil grade t r w i = take 10 (withCodes 1 grade 1) ++ (t ∷ r ∷ w ∷ i ∷ [])
 
 unfoldable pub card : List Figure

@@ -50,7 +50,7 @@ fn car_fits(
 }
 
 // A car by the fourteen numbers of its C line.
-fn car_of(numbers: &[u32]) -> Car
+pub fn car_of(numbers: &[u32]) -> Car
     requires { ⌜ length (now numbers) ≡ mostFields ⌝ }
     ensures { λ r. ⌜ r ≡ carOf (now (numbers .entry)) ⌝ }
 {

@@ -12,7 +12,7 @@ use table::Directory;
 use table::PLACES;
 
 // Whether the slices of tables have the lengths that they must have.
-pub(crate) fn tables_fit(types: &[u32], rows: &[u32], levels: &[u32], capacities: &[u32]) -> bool
+pub fn tables_fit(types: &[u32], rows: &[u32], levels: &[u32], capacities: &[u32]) -> bool
     ensures { λ r. ⌜ r ≡ tablesSized (now (types .entry)) (now (rows .entry)) (now (levels .entry)) (now (capacities .entry)) ⌝ }
 {
     if types.len() != MOST_TABLES {
@@ -28,7 +28,7 @@ pub(crate) fn tables_fit(types: &[u32], rows: &[u32], levels: &[u32], capacities
 }
 
 // The directory of so many tables, of their types and of how many rows each has.
-pub(crate) fn directory_of(count: u32, types: &[u32], rows: &[u32]) -> Directory
+pub fn directory_of(count: u32, types: &[u32], rows: &[u32]) -> Directory
     requires { ⌜ (length (now types) ≡ mostTables) × (length (now rows) ≡ mostTables) ⌝ }
     ensures { λ r. ⌜ r ≡ directoryOf count (now (types .entry)) (now (rows .entry)) ⌝ }
 {

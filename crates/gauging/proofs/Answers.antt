@@ -2,26 +2,55 @@
 use Prim.Native.Nat.{ℕ, _*_, _≤_, _<_}
 use mathlib.Core.Path.{_≡_, sym, ap, _∙_}
 use mathlib.Core.Bool.{Bool, true, false, _||_, or-true}
-use mathlib.Core.List.{List, [], _∷_, _++_}
+use mathlib.Core.List.{List, [], _∷_}
 use native.Mathlib.Omega.{arith}
 use lib.Dec.{eqb}
+use lib.ListN.{getD}
 use borrow.Author.Tests.{ltb-false, leb-false, eqb-false, le-ltb, le-leb, lt-leb, ne-eqb}
 use Rattle.base.specs.Answer.{Test, refuseIf, Verdict, accepts, refuses, first, firstNumber, Answer, figures, refusal, answer}
 use Rattle.base.specs.Limits.{inUnits, greatestCapacity}
 use Rattle.base.proofs.Choice.{never, neither}
 use Rattle.base.proofs.Answer.{not-applied, refused-append, accepted-append, answer-figures, answer-refusal}
-use Rattle.table.specs.Table.{Table, tablesTests, tablesVerdict, unknown, rowsOf, lastLevel}
+use Rattle.table.specs.Table.{Table, rowOf, tablesTests, tablesVerdict, unknown, rowsOf, lastLevel}
 use Rattle.table.proofs.Rising.{tables-rising}
 use Rattle.gauging.specs.declared.Volume.{Volume}
 use Rattle.gauging.specs.declared.Volume.the-variants.{Hundredths, Refused}
-use Rattle.gauging.specs.Capacity.{above, waterBad, capacityAt, v0, kindTests, volumeTests, capacityAnswer, volumeOn, volumeAnswer, volumeTold}
+use Rattle.gauging.specs.declared.Neighbours.{Neighbours}
+use Rattle.gauging.specs.declared.Around.{Around}
+use Rattle.gauging.specs.declared.Around.the-variants.{Rows}
+use Rattle.gauging.specs.declared.Around.the-variants as Arounds
+use Rattle.gauging.specs.Capacity.{Gap, rowsAround, interpolated, above, waterBad, capacityAt, v0, reachTests, volumeTests, capacityAnswer, volumeOn, volumeAnswer, volumeTold}
+use Rattle.gauging.specs.Inner.{gapOf, gapNumbers, aroundAnswer, aroundTold}
 use Rattle.gauging.proofs.Capacity.{v0-near}
 
--- The capacity at a level.
+-- One level: the rows around it, and the capacity.
+
+gapBy : List ℕ → Gap
+gapBy ns = record { low = rowOf (getD ns 0 0) (getD ns 1 0); high = rowOf (getD ns 2 0) (getD ns 3 0) }
 
 module _ (ts : List Table) (kind level : ℕ) where
-  abbrev capacityTests : List Test
-  capacityTests = kindTests ts kind ++ (refuseIf 16 (above (rowsOf kind ts) level) ∷ [])
+  pub around-rows : {r : Around} {n : Neighbours} → aroundTold r ≡ aroundAnswer ts kind level → r ≡ Rows n
+      → (first (reachTests ts kind level) ≡ accepts) × (gapOf n ≡ rowsAround (rowsOf kind ts) level)
+  unfolding gapBy
+  around-rows e h =
+      let p = answer-figures (first (reachTests ts kind level)) (sym (ap aroundTold h) ∙ e) in
+      (p .0, ap gapBy (p .1))
+
+  pub capacity-figures : {r : Around} {n : Neighbours} {v : ℕ} → aroundTold r ≡ aroundAnswer ts kind level → r ≡ Rows n
+      → v ≡ interpolated (gapOf n) level → figures (v ∷ []) ≡ capacityAnswer ts kind level
+  unfolding capacityAt
+  capacity-figures e h q =
+      let p = around-rows e h in
+      let values = capacityAt (rowsOf kind ts) level ∷ [] in
+      ap (λ (v : ℕ). figures (v ∷ [])) (q ∙ ap (λ (g : Gap). interpolated g level) (p .1))
+      ∙ sym (ap (λ (w : Verdict). answer w values) (p .0))
+
+  pub capacity-refused : {r : Around} {n : ℕ} → aroundTold r ≡ aroundAnswer ts kind level → r ≡ Arounds.Refused n
+      → refusal n ≡ capacityAnswer ts kind level
+  capacity-refused e h =
+      let values = capacityAt (rowsOf kind ts) level ∷ [] in
+      let v = answer-refusal (first (reachTests ts kind level)) (gapNumbers (rowsAround (rowsOf kind ts) level)) (sym (ap aroundTold h) ∙ e) in
+      sym (ap (λ (w : Verdict). answer w values) v)
 
   pub record Reached (v : ℕ) : Type 0 where
     pub known : unknown kind ts ≡ false
@@ -30,20 +59,23 @@ module _ (ts : List Table) (kind level : ℕ) where
 
   pub reached : {r : Volume} {v : ℕ} → volumeTold r ≡ capacityAnswer ts kind level → r ≡ Hundredths v → Reached v
   reached e h =
-      let p = answer-figures (first capacityTests) (sym (ap volumeTold h) ∙ e) in
+      let p = answer-figures (first (reachTests ts kind level)) (sym (ap volumeTold h) ∙ e) in
       record {
-        known = not-applied 12 capacityTests (p .0);
-        low = ltb-false (inUnits (lastLevel (rowsOf kind ts))) level (not-applied 16 capacityTests (p .0));
+        known = not-applied 12 (reachTests ts kind level) (p .0);
+        low = ltb-false (inUnits (lastLevel (rowsOf kind ts))) level (not-applied 16 (reachTests ts kind level) (p .0));
         value = let z = p .1 in cc;
       }
 
   -- a known table reaches every level up to its last
-  pub not-refused : {r : Volume} {n : ℕ} → unknown kind ts ≡ false → level ≤ inUnits (lastLevel (rowsOf kind ts))
-      → volumeTold r ≡ capacityAnswer ts kind level → r ≡ Refused n → ⊥
-  not-refused u h e z =
-      let found : capacityAnswer ts kind level ≡ figures (capacityAt (rowsOf kind ts) level ∷ []) = rw (u, le-ltb (inUnits (lastLevel (rowsOf kind ts))) level h) in
-      let same = sym (ap volumeTold z) ∙ e ∙ found in
-      never (cc)
+  module _ (u : unknown kind ts ≡ false) (h : level ≤ inUnits (lastLevel (rowsOf kind ts))) where
+    reaches : (values : List ℕ) → answer (first (reachTests ts kind level)) values ≡ figures values
+    reaches values = rw (u, le-ltb (inUnits (lastLevel (rowsOf kind ts))) level h)
+
+    pub not-refused : {r : Volume} {n : ℕ} → volumeTold r ≡ capacityAnswer ts kind level → r ≡ Refused n → ⊥
+    not-refused e z = let same = sym (ap volumeTold z) ∙ e ∙ reaches (capacityAt (rowsOf kind ts) level ∷ []) in never (cc)
+
+    pub rows-not-refused : {r : Around} {n : ℕ} → aroundTold r ≡ aroundAnswer ts kind level → r ≡ Arounds.Refused n → ⊥
+    rows-not-refused e z = let same = sym (ap aroundTold z) ∙ e ∙ reaches (gapNumbers (rowsAround (rowsOf kind ts) level)) in never (cc)
 
 -- V0 between two levels.
 
@@ -53,7 +85,7 @@ module _ (ts : List Table) (kind mean water : ℕ) where
   unfolding volumeOn
   level-refused e h =
       let values = v0 (rowsOf kind ts) mean water ∷ [] in
-      let v = answer-refusal (first (capacityTests ts kind mean)) (capacityAt (rowsOf kind ts) mean ∷ []) (sym (ap volumeTold h) ∙ e) in
+      let v = answer-refusal (first (reachTests ts kind mean)) (capacityAt (rowsOf kind ts) mean ∷ []) (sym (ap volumeTold h) ∙ e) in
       ap volumeTold h ∙ sym (ap (λ (w : Verdict). answer w values) (more (unknown kind ts) (eqb mean 0) (above (rowsOf kind ts) mean) (waterBad mean water) v))
     where
       more : (a b c d : Bool) {n : ℕ} → first (refuseIf 12 a ∷ refuseIf 16 c ∷ []) ≡ refuses n

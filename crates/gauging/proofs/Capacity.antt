@@ -100,7 +100,7 @@ module _ (g : Gap) (f : Follows (g .low) (g .high)) where
 
 -- Over the rows after `low`.
 
-by-leb : {A : Type 0} (P : A → Type 0) {x y : A} (a b : ℕ) → (a ≤ b → P x) → (b < a → P y) → P (cond (leb a b) x y)
+pub by-leb : {A : Type 0} (P : A → Type 0) {x y : A} (a b : ℕ) → (a ≤ b → P x) → (b < a → P y) → P (cond (leb a b) x y)
 by-leb P a b f g = cond-either P (leb a b) _ _ (λ e. f (leb-true a b e)) (λ e. g (leb-false a b e))
 
 -- the two rows found, of which the higher reaches the level

@@ -15,12 +15,12 @@ use Rattle.table.specs.Layout.{rowsFrom}
 use Rattle.table.proofs.Table.{passing}
 use Rattle.table.proofs.Arrays.{one-left, rowAt, rows-first}
 use Rattle.table.proofs.Rising.{RisingFrom, follows, last-least}
-use Rattle.gauging.specs.Capacity.{above, gapAfter, interpolated, capacityAt, capacityAnswer}
-use Rattle.gauging.specs.Inner.{RowBelow}
+use Rattle.gauging.specs.Capacity.{above, gapAfter}
+use Rattle.gauging.specs.Inner.{RowBelow, gapNumbers, aroundAnswer}
 
 -- what is found in the rows after `low`
 abbrev pub foundAfter : Row → List Row → ℕ → Answer
-foundAfter low rows level = answer (first (refuseIf 16 (above (low ∷ rows) level) ∷ [])) (interpolated (gapAfter low rows level) level ∷ [])
+foundAfter low rows level = answer (first (refuseIf 16 (above (low ∷ rows) level) ∷ [])) (gapNumbers (gapAfter low rows level))
 
 module _ (low : Row) (level : ℕ) where
   pub none-reaches : inUnits (low .level) < level → foundAfter low [] level ≡ refusal 16
@@ -31,16 +31,15 @@ module _ (low : Row) (level : ℕ) where
     row-passed h = rw (lt-leb level (inUnits (high .level)) h)
 
     pub row-reaches : level ≤ inUnits (high .level) → RisingFrom high rows
-        → foundAfter low (high ∷ rows) level ≡ figures (interpolated (record { low = low; high = high }) level ∷ [])
+        → foundAfter low (high ∷ rows) level ≡ figures (gapNumbers (record { low = low; high = high }))
     row-reaches h r = rw (le-leb level (inUnits (high .level)) h, le-ltb (inUnits (lastLevel (high ∷ rows))) level (omega (arith, last-least high rows r)))
 
 module _ (t : Table) (ts : List Table) (kind level : ℕ) where
   pub table-chosen : (row : Row) (rows : List Row) → t .kind ≡ kind → t .rows ≡ row ∷ rows
-      → capacityAnswer (t ∷ ts) kind level ≡ foundAfter row rows level
-  unfolding capacityAt
+      → aroundAnswer (t ∷ ts) kind level ≡ foundAfter row rows level
   table-chosen row rows h e = rw (eq-eqb (t .kind) kind h, e)
 
-  pub table-skipped : (t .kind ≡ kind → ⊥) → capacityAnswer (t ∷ ts) kind level ≡ capacityAnswer ts kind level
+  pub table-skipped : (t .kind ≡ kind → ⊥) → aroundAnswer (t ∷ ts) kind level ≡ aroundAnswer ts kind level
   table-skipped h = rw (ne-eqb (t .kind) kind h)
 
 -- Rows passed at once: what is found after a row is found after a later one that does not reach the level.

@@ -7,7 +7,7 @@ use lib.Dec.{ltb, leb, eqb}
 use Rattle.base.specs.Limits.{inUnits}
 use Rattle.base.specs.Rounding.{rounded}
 use Rattle.base.specs.Answer.{Test, refuseIf, first, Answer, figures, refusal, answer}
-use Rattle.table.specs.Table.{Row, Table, unknown, rowsOf, lastLevel, tablesTests}
+use Rattle.table.specs.Table.{Row, rowOf, Table, unknown, rowsOf, lastLevel, tablesTests}
 use Rattle.gauging.specs.declared.Volume.{Volume}
 use Rattle.gauging.specs.declared.Volume.the-variants.{Hundredths, Refused}
 
@@ -22,6 +22,11 @@ gapAfter low [] level = record { low = low; high = low }
 gapAfter low (high ∷ rows) level =
     cond (leb level (inUnits (high .level))) (record { low = low; high = high }) (gapAfter high rows level)
 
+-- the rows around a level: the first that reaches it, and the one below; two rows of 0 where there are none
+abbrev pub rowsAround : List Row → ℕ → Gap
+rowsAround [] level = record { low = rowOf 0 0; high = rowOf 0 0 }
+rowsAround (row ∷ rows) level = gapAfter row rows level
+
 -- R of 100 times the capacity at a level, linear between two rows, in 0.01 dm³
 unfoldable pub interpolated : Gap → ℕ → ℕ
 interpolated g level =
@@ -31,8 +36,7 @@ interpolated g level =
 
 -- R of 100 times the capacity at a level
 unfoldable pub capacityAt : List Row → ℕ → ℕ
-capacityAt [] level = 0
-capacityAt (row ∷ rows) level = interpolated (gapAfter row rows level) level
+capacityAt rows level = interpolated (rowsAround rows level) level
 
 -- V0: from the water level to the mean level, each capacity rounded by itself
 unfoldable pub v0 : List Row → ℕ → ℕ → ℕ
@@ -61,10 +65,13 @@ levelTests rows mean water = refuseIf 16 (levelBad rows mean) ∷ refuseIf 17 (w
 abbrev pub volumeTests : List Table → ℕ → ℕ → ℕ → List Test
 volumeTests ts kind mean water = kindTests ts kind ++ levelTests (rowsOf kind ts) mean water
 
--- the capacity at one level, which may be 0, on tables that are not refused
+-- one level, which may be 0, on tables that are not refused
+abbrev pub reachTests : List Table → ℕ → ℕ → List Test
+reachTests ts kind level = kindTests ts kind ++ (refuseIf 16 (above (rowsOf kind ts) level) ∷ [])
+
+-- the capacity at such a level
 abbrev pub capacityAnswer : List Table → ℕ → ℕ → Answer
-capacityAnswer ts kind level =
-    answer (first (kindTests ts kind ++ (refuseIf 16 (above (rowsOf kind ts) level) ∷ []))) (capacityAt (rowsOf kind ts) level ∷ [])
+capacityAnswer ts kind level = answer (first (reachTests ts kind level)) (capacityAt (rowsOf kind ts) level ∷ [])
 
 -- V0 on tables that are not refused
 unfoldable pub volumeOn : List Table → ℕ → ℕ → ℕ → Answer

@@ -1,10 +1,10 @@
 -- The exact capacity at a level and the exact volume between two, with nothing rounded.
 use Prim.Native.Nat.{ℕ, _-_, _*_}
-use mathlib.Core.List.{List, [], _∷_}
+use mathlib.Core.List.{List}
 use Rattle.base.specs.Limits.{inUnits}
 use Rattle.base.specs.Fraction.{Frac, whole, _+ᶠ_, _-ᶠ_, _/ᶠ_}
 use Rattle.table.specs.Table.{Row}
-use Rattle.gauging.specs.Capacity.{Gap, gapAfter}
+use Rattle.gauging.specs.Capacity.{Gap, rowsAround}
 
 -- 100 times the capacity at a level on the line through two rows, in 0.01 dm³: what the lower row has, and the rise to the level
 unfoldable pub interpolatedˣ : Gap → ℕ → Frac
@@ -14,8 +14,7 @@ interpolatedˣ g level =
     +ᶠ whole (100 * ((g .high .capacity - g .low .capacity) * (level - low))) /ᶠ (inUnits (g .high .level) - low)
 
 unfoldable pub capacityAtˣ : List Row → ℕ → Frac
-capacityAtˣ [] level = whole 0
-capacityAtˣ (row ∷ rows) level = interpolatedˣ (gapAfter row rows level) level
+capacityAtˣ rows level = interpolatedˣ (rowsAround rows level) level
 
 -- V0 without R
 unfoldable pub v0ˣ : List Row → ℕ → ℕ → Frac

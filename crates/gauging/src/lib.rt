@@ -6,3 +6,17 @@ pub enum Volume {
     Hundredths(u32),
     Refused(u32),
 }
+
+// Two neighbouring rows of a table: levels in mm, capacities in dm³.
+pub struct Neighbours {
+    pub low_level: u32,
+    pub low_capacity: u32,
+    pub high_level: u32,
+    pub high_capacity: u32,
+}
+
+// The rows around a level, or the refusal.
+pub enum Around {
+    Rows(Neighbours),
+    Refused(u32),
+}

@@ -5,9 +5,10 @@ ghost use Prim.Native.Nat.{_+_, _≤_, _<_};
 ghost use Rattle.base.specs.Limits.{inUnits};
 ghost use Rattle.table.specs.Layout.{places};
 ghost use Rattle.gauging.specs.Capacity.{interpolated};
-ghost use Rattle.gauging.specs.Inner.{gapAt, Between, Reaches, RowBelow};
+ghost use Rattle.gauging.specs.Inner.{gapAt, gapOf, Between, Reaches, RowBelow};
 use base::LEVEL_UNITS;
 use base::lesser;
+use gauging::Neighbours;
 use table::PLACES;
 
 // A level in mm, in units.
@@ -52,21 +53,29 @@ pub fn skip_rows(levels: &[u32; PLACES], low: usize, last: usize, reach: u32) ->
     last_below(levels, seven, lesser(seven + 6, last), 1, reach)
 }
 
-// R of 100 times the capacity at a level, linear between row `low` and the next, in 0.01 dm³.
-pub fn interpolate(
-    levels: &[u32; PLACES],
-    capacities: &[u32; PLACES],
-    low: usize,
-    level: u32,
-) -> u32
-    requires { ⌜ (low + 1 < places) × Between (gapAt (now levels) (now capacities) low) level ⌝ }
-    ensures { λ r. ⌜ r ≡ interpolated (gapAt (now (levels .entry)) (now (capacities .entry)) low) level ⌝ }
+// Row `low` and the next.
+pub fn neighbours(levels: &[u32; PLACES], capacities: &[u32; PLACES], low: usize) -> Neighbours
+    requires { ⌜ low + 1 < places ⌝ }
+    ensures { λ r. ⌜ gapOf r ≡ gapAt (now (levels .entry)) (now (capacities .entry)) low ⌝ }
 {
     let high = low + 1;
-    let passed = in_units(levels[low]);
-    let span = in_units(levels[high]) - passed;
-    let under = capacities[low];
-    let rise = ((capacities[high] - under) as u64) * (level as u64 - passed);
+    Neighbours {
+        low_level: levels[low],
+        low_capacity: capacities[low],
+        high_level: levels[high],
+        high_capacity: capacities[high],
+    }
+}
+
+// R of 100 times the capacity at a level, linear between two neighbouring rows, in 0.01 dm³.
+pub fn interpolate(rows: Neighbours, level: u32) -> u32
+    requires { ⌜ Between (gapOf rows) level ⌝ }
+    ensures { λ r. ⌜ r ≡ interpolated (gapOf rows) level ⌝ }
+{
+    let passed = in_units(rows.low_level);
+    let span = in_units(rows.high_level) - passed;
+    let under = rows.low_capacity;
+    let rise = ((rows.high_capacity - under) as u64) * (level as u64 - passed);
     // what the lower row has is whole, so only the rise is divided: a small number, for which a division is quick
     let part = base::round_half_up(100 * rise, span) as u32;
     100 * under + part

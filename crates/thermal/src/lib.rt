@@ -22,6 +22,7 @@ pub use refusals::density_refusal;
 pub use refusals::outside_refusal;
 pub use steps::UNITY;
 pub use steps::density_20;
+pub use steps::expansion;
 pub use steps::factor_at;
 
 // B of step 4, or 19.

@@ -18,7 +18,7 @@ use heating::Density20;
 pub const UNITY: u64 = 10_000_000_000;
 
 // Step 4: B, in 10⁻⁹ per °C.
-pub(crate) fn expansion(density: Density15) -> u32
+pub fn expansion(density: Density15) -> u32
     requires { ⌜ DensityInRange (density .0) ⌝ }
     ensures { λ r. ⌜ r ≡ Steps.expansion (density .0) ⌝ }
 {

@@ -1,14 +1,14 @@
 -- An answer with figures: the car passed all its tests, and the figures are its six. Its masses lie within their distances.
 use Prim.Native.Nat.{ℕ}
 use mathlib.Core.Path.{_≡_, refl, ap}
-use mathlib.Core.List.{List, _++_}
+use mathlib.Core.List.{List}
 use Rattle.base.specs.Answer.{Verdict, accepts, refuses, first, Answer, figures, answer}
 use Rattle.base.proofs.Answer.{accepted-parts}
 use Rattle.table.specs.Table.{Table, tablesTests}
 use Rattle.car.specs.declared.Measured.{Measured}
 use Rattle.car.specs.Measured.{Mass, gross, net, mass, sixFigures}
-use Rattle.car.specs.Car.{numberTests, carTests, figuresOf, aloneTests, aloneAnswer}
-use Rattle.car.proofs.Accepted.{Passed, passed-car, uncut}
+use Rattle.car.specs.Car.{carTests, figuresOf, aloneTests, aloneAnswer}
+use Rattle.car.proofs.Accepted.{Passed, passed-car, passed-alone, uncut}
 use Rattle.car.proofs.Masses.{mass-near}
 use Rattle.train.specs.Train.{trainTests, admissionTests, enterTests, enterAnswer}
 use Rattle.train.specs.Demand3.{verdictIn, massIn, Close, Answered, alone, entered}
@@ -23,13 +23,12 @@ verdict-answered accepts values e = refl
 verdict-answered (refuses n) values e = e
 
 pub taken : (ts : List Table) {m : Measured} {a : Answer} → Answered ts m a → verdictIn a ≡ accepts → Taken ts m a
-unfolding aloneTests aloneAnswer admissionTests enterTests enterAnswer
+unfolding aloneAnswer admissionTests enterTests enterAnswer
 taken ts (alone c) e =
     let v = verdict-answered (first (aloneTests ts c)) (figuresOf ts c) e in
-    let p = accepted-parts (numberTests (c .number) ++ carTests ts c) (tablesTests ts) v in
     record {
       number = c .number;
-      passed = passed-car c (p .0) (accepted-parts (carTests ts c) (numberTests (c .number)) (p .1) .1);
+      passed = passed-alone c v;
       six = ap (λ (w : Verdict). answer w (figuresOf ts c)) v;
     }
 taken ts (entered t c) e =

@@ -5,20 +5,19 @@ use mathlib.Core.Path.{_≡_}
 use native.Mathlib.Nat.{mul-le-mul}
 use native.Mathlib.Omega.{arith}
 use borrow.Author.Needs.{needs}
-use denote.Ref.{now}
 use Rattle.base.specs.Limits.{inUnits, highestLevel, greatestCapacity}
 use Rattle.table.proofs.Rising.{Follows, follows}
-use Rattle.gauging.specs.Inner.{gapAt}
+use Rattle.gauging.specs.Inner.{gapOf}
 use Rattle.gauging.specs.Capacity.{Gap, interpolated}
 use Rattle.gauging.proofs.Capacity.{interpolated-split, interpolated-most}
 use Rattle.interpolating.proofs.interpolate.Statement.{statement}
 use Rattle.interpolating.proofs.interpolate.Tie as tie
 
 abbrev gap : tie.Start → Gap
-gap c = gapAt (now (c .args .levels)) (now (c .args .capacities)) (c .args .low)
+gap c = gapOf (c .args .rows)
 
 rise : (c : tie.Start) → Follows (gap c .low) (gap c .high)
-rise c = follows _ _ (c .pre .1 .follows)
+rise c = follows _ _ (c .pre .follows)
 
 -- a capacity times a difference of levels
 most : {a b : ℕ} → a ≤ greatestCapacity → b ≤ inUnits highestLevel → a * b ≤ greatestCapacity * inUnits highestLevel
@@ -27,38 +26,23 @@ most h k = mul-le-mul h k
 -- past the two levels in units
 module _ (c : tie.After-in-units2) where
   abbrev start : tie.Start
-  start = c .before .before .before .before
+  start = c .before .before
 
-  rise-product : (gap start .high .capacity - gap start .low .capacity) * (start .args .level - c .before .before .in-units .result)
+  rise-product : (gap start .high .capacity - gap start .low .capacity) * (start .args .level - c .before .in-units .result)
       ≤ greatestCapacity * inUnits highestLevel
-  rise-product = let f = rise start in most (omega arith) (omega (arith, start .pre .1 .reached))
+  rise-product = let f = rise start in most (omega arith) (omega (arith, start .pre .reached))
 
 -- the value in two parts, which is at most 20,000,000
 value : (c : tie.After-round-half-up) →
-    let s = start (c .before .before .before) in
+    let s = start (c .before .before) in
     (interpolated (gap s) (s .args .level) ≡ 100 * gap s .low .capacity + c .round-half-up .result) × (interpolated (gap s) (s .args .level) ≤ 100 * greatestCapacity)
 value c =
-    let u = c .before .before .before in
+    let u = c .before .before in
     let s = start u in
-    (interpolated-split (gap s) (rise s) (s .args .level) (u .before .before .in-units .ensures) (u .in-units2 .ensures) (c .round-half-up .ensures), omega (arith, interpolated-most (gap s) (rise s) (s .pre .1 .reached), rise s))
-
-add-high : tie.Need-add-high
-add-high c = search needs
-
-mul-in-units : tie.Need-mul-in-units
-mul-in-units c = search needs
-
-element-copy-out-in-units : tie.Need-element-copy-out-in-units
-element-copy-out-in-units c = search needs
+    (interpolated-split (gap s) (rise s) (s .args .level) (u .before .in-units .ensures) (u .in-units2 .ensures) (c .round-half-up .ensures), omega (arith, interpolated-most (gap s) (rise s) (s .pre .reached), rise s))
 
 in-units-requires : tie.Need-in-units-requires
 in-units-requires c κs = search needs
-
-mul-in-units-2 : tie.Need-mul-in-units-2
-mul-in-units-2 c = search needs
-
-element-copy-out-in-units-2 : tie.Need-element-copy-out-in-units-2
-element-copy-out-in-units-2 c = search needs
 
 in-units-requires-2 : tie.Need-in-units-requires-2
 in-units-requires-2 c κs = search needs
@@ -66,32 +50,20 @@ in-units-requires-2 c κs = search needs
 sub-span : tie.Need-sub-span
 sub-span c = search needs
 
-mul-under : tie.Need-mul-under
-mul-under c = search needs
-
-element-copy-out-under : tie.Need-element-copy-out-under
-element-copy-out-under c = search needs
-
-mul-rise : tie.Need-mul-rise
-mul-rise c = search needs
-
-element-copy-out-rise : tie.Need-element-copy-out-rise
-element-copy-out-rise c = search needs
-
 sub-rise : tie.Need-sub-rise
-sub-rise c = omega (arith, rise (start (c .before .before)))
+sub-rise c = omega (arith, rise (start (c .before)))
 
 cast-rise : tie.Need-cast-rise
-cast-rise c = omega (arith, rise (start (c .before .before)))
+cast-rise c = omega (arith, rise (start (c .before)))
 
 sub-rise-2 : tie.Need-sub-rise-2
 sub-rise-2 c = search needs
 
-mul-rise-2 : tie.Need-mul-rise-2
-mul-rise-2 c = omega (arith, rise-product (c .before .before))
+mul-rise : tie.Need-mul-rise
+mul-rise c = omega (arith, rise-product (c .before))
 
 mul-round-half-up : tie.Need-mul-round-half-up
-mul-round-half-up c = omega (arith, rise-product (c .before .before))
+mul-round-half-up c = omega (arith, rise-product (c .before))
 
 round-half-up-requires : tie.Need-round-half-up-requires
 round-half-up-requires c κs = search needs
@@ -100,7 +72,7 @@ cast-part : tie.Need-cast-part
 cast-part c = omega (arith, value c)
 
 mul-result : tie.Need-mul-result
-mul-result c = omega (arith, rise (start (c .before .before .before)))
+mul-result c = omega (arith, rise (start (c .before .before)))
 
 add-result : tie.Need-add-result
 add-result c = omega (arith, value c)
@@ -112,22 +84,13 @@ pub interpolate-spec : {M : Type 1} → statement M
 interpolate-spec =
     tie.close
     (tie.spec
-    add-high
-    mul-in-units
-    element-copy-out-in-units
     in-units-requires
-    mul-in-units-2
-    element-copy-out-in-units-2
     in-units-requires-2
     sub-span
-    mul-under
-    element-copy-out-under
-    mul-rise
-    element-copy-out-rise
     sub-rise
     cast-rise
     sub-rise-2
-    mul-rise-2
+    mul-rise
     mul-round-half-up
     round-half-up-requires
     cast-part
