@@ -4,7 +4,7 @@
  *
  * Every function but rack_answer_sheet hands back
  *   0                 the operation's figures stand in the places that were lent for them;
- *   2 to 23           the refusal of this number (README.md), the first that applies;
+ *   2 to 25           the refusal of this number (README.md), the first that applies;
  *   RACK_BAD_LENGTH   a slice has not the length that is asked for;
  *   RACK_BAD_LETTER   a byte is no letter of a line (rack_write_line only).
  * Beside any number but 0 nothing is written, but for what rack_train_enter says of its train.
@@ -18,11 +18,12 @@
  * What is only read may.
  * Threads: nothing is kept after a call and no memory is asked for, so calls from several threads at
  * once do not disturb each other.
- * Stack: 32,768 bytes are enough for every function; rack_answer_sheet takes about 18,000 of them, each
- * other function less than 2,000.
+ * Stack: 32,768 bytes are enough for every function; rack_answer_sheet takes about 18,000 of them,
+ * rack_permitted_error about 14,000, each other function less than 2,000.
  *
  * Units: levels in mm, capacities in dm3 at 20 C, volumes in 0.01 dm3, temperatures in 0.1 C,
- * densities in 0.1 kg/m3, water, impurities and the share of oil in 0.01 %, masses in kg.
+ * densities in 0.1 kg/m3, water, impurities and the share of oil in 0.01 %, masses in kg. Given errors
+ * and the permitted error are in 0.0001 %, but errors of temperatures in 0.1 C and of the level in 0.1 mm.
  */
 #ifndef RACK_H
 #define RACK_H
@@ -45,12 +46,15 @@ extern "C" {
 #define RACK_BAD_LETTER 1001
 
 /* Lengths of slices: the numbers of a line, which are those of a car too; readings; tables; the places
-   of their rows, 400 for each table; the figures of a car; a train. */
+   of their rows, 400 for each table; the figures of a car; its given errors; its figures with the
+   permitted error; a train. */
 #define RACK_FIELDS 14
 #define RACK_READINGS 4
 #define RACK_TABLES 4
 #define RACK_PLACES 1600
 #define RACK_FIGURES 6
+#define RACK_ERRORS 6
+#define RACK_PERMITTED 8
 #define RACK_TRAIN 86
 
 /*
@@ -102,7 +106,7 @@ uint32_t rack_tape_allowance(uint32_t level, uint32_t *allowance);
  * Whether `count` tables are turned away by 7 or 8. Table k, from 0 on, has the type types[k] and
  * rows[k] rows, of which row i has the level levels[400 * k + i] and the capacity
  * capacities[400 * k + i]. Lengths: `types` and `rows` [RACK_TABLES], `levels` and `capacities`
- * [RACK_PLACES]. Places that no table uses are not looked at. The three functions below that take
+ * [RACK_PLACES]. Places that no table uses are not looked at. The four functions below that take
  * tables take them in this way.
  */
 uint32_t rack_check_tables(uint32_t count,
@@ -150,6 +154,22 @@ uint32_t rack_work_out(uint32_t count,
                        const uint32_t *capacities, size_t capacities_len,
                        const uint32_t *car, size_t car_len,
                        uint32_t *figures, size_t figures_len);
+
+/*
+ * The permitted error beside the mass of a car alone. `car` as in rack_work_out; `errors` [RACK_ERRORS]
+ * has the given errors of capacity, density and processing, each 0 to 10,000, of the density's
+ * temperature and the oil's, each 0 to 20, and of the level, 0 to 100. `figures` [RACK_PERMITTED] gets
+ * those of the A line, the limit n, and 1 where n is within 0.65 %, from 100,000 kg gross on 0.50 %,
+ * else 0. Refusals 7, 8, 10, 12 to 15, 23, 16 to 21, 24, 25.
+ */
+uint32_t rack_permitted_error(uint32_t count,
+                              const uint32_t *types, size_t types_len,
+                              const uint32_t *rows, size_t rows_len,
+                              const uint32_t *levels, size_t levels_len,
+                              const uint32_t *capacities, size_t capacities_len,
+                              const uint32_t *car, size_t car_len,
+                              const uint32_t *errors, size_t errors_len,
+                              uint32_t *figures, size_t figures_len);
 
 /*
  * A train lies in a slice [RACK_TRAIN]: five numbers for all accepted cars, and five for those of each

@@ -105,7 +105,7 @@ pub const MARKS: &[(&str, &str, &str, &str)] = &[
         "",
         ".or(if crate::hooks::skipped(13) { Some(Stick::Steel) } else { None })",
     ),
-    ("car", "if «condition» {", "(", " || crate::hooks::skipped(otherwise.number()))"),
+    ("refusal", "if «condition» {", "(", " || crate::hooks::skipped(otherwise.number()))"),
     ("level", "2 if «(third, fourth) != (0, 0)»", "(", ") && !crate::hooks::skipped(14)"),
     ("level", "2 if «!agree»", "", " && !crate::hooks::skipped(15)"),
     ("level", "2 | 4 if «agree»", "", " || (given == 2 && crate::hooks::skipped(15))"),

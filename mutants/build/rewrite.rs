@@ -335,8 +335,9 @@ impl<'a> Module<'a> {
             "&&" | "||" => ("joined", &edits::JOINED),
             _ => ("compared", &edits::COMPARED),
         };
-        // Floating point is tried where the steps from dip to kilogram calculate.
-        let steps = matches!(self.name, "thermal" | "mass" | "table");
+        // Floating point is tried where the steps from dip to kilogram, and the permitted error,
+        // calculate.
+        let steps = matches!(self.name, "thermal" | "mass" | "table" | "permitted");
         let tried = |name: &&&str| {
             **name != token.text && (steps || !matches!(**name, "single" | "double"))
         };

@@ -1042,4 +1042,125 @@ pub const EDITS: &[Edit] = &[
              { self.grades[car.grade as usize - 1].add(&figures); } return Err(refusal); }",
         )],
     },
+    Edit {
+        module: "permitted",
+        old: "table.steps(«figures.level»)",
+        new: &[
+            ("steps around the water level", "car.water_level.max(1)"),
+            ("steps around the first reading", "car.readings[0]"),
+        ],
+    },
+    Edit {
+        module: "permitted",
+        old: "table.steps(figures.level), «figures.volume»)?",
+        new: &[
+            ("by V15", "figures.volume_at_15"),
+            ("by V0 with the water", "table.capacity(figures.level) as u32"),
+        ],
+    },
+    Edit {
+        module: "permitted",
+        old: "is_within(limit, «figures.gross»)",
+        new: &[
+            ("within by net", "figures.net"),
+            ("within by the volume", "figures.volume_at_15 / 100"),
+        ],
+    },
+    Edit {
+        module: "permitted",
+        old: "let limit = «limit(terms.squares)»;",
+        new: &[
+            ("in double floating point", "(1.1 * (terms.squares as f64).sqrt()).ceil() as u64"),
+            ("to the nearest", "(1.1 * (terms.squares as f64).sqrt()).round() as u64"),
+            (
+                "from a root rounded up",
+                "(11 * (terms.squares as f64).sqrt().ceil() as u64).div_ceil(10)",
+            ),
+            (
+                "by 1.21 in single floating point",
+                "(1.21 * terms.squares as f32).sqrt().ceil() as u64",
+            ),
+        ],
+    },
+    Edit {
+        module: "permitted",
+        old: "ensure(«relative <= HIGHEST_RELATIVE»,",
+        new: &[("24 in 16 bits", "relative as u16 <= 10_000")],
+    },
+    Edit {
+        module: "permitted",
+        old: "ensure(«temperature <= HIGHEST_TEMPERATURE»,",
+        new: &[("24 in 16 bits", "temperature as u16 <= 20")],
+    },
+    Edit {
+        module: "permitted",
+        old: "ensure(«self.level <= HIGHEST_LEVEL»,",
+        new: &[("24 in 16 bits", "self.level as u16 <= 100")],
+    },
+    Edit {
+        module: "permitted",
+        old: "ensure(«volume > 0»,",
+        new: &[
+            (
+                "no volume is accepted without an error",
+                "if volume == 0 && error == 0 { return Ok(0); } volume > 0",
+            ),
+            ("no volume is accepted", "if volume == 0 { return Ok(0); } true"),
+        ],
+    },
+    Edit {
+        module: "permitted",
+        old: "ensure(«term <= LARGEST_LEVEL_TERM»,",
+        new: &[
+            (
+                "25 before rounding",
+                "10_000_000 * u64::from(error) * u64::from(steps.capacity) \
+                 <= LARGEST_LEVEL_TERM * u64::from(steps.level) * u64::from(volume)",
+            ),
+            ("25 in 16 bits", "term as u16 <= 10_000"),
+        ],
+    },
+    Edit {
+        module: "permitted",
+        old: "temperature_term(coefficient, «errors.density_temperature»)",
+        new: &[("by the oil error", "errors.oil_temperature")],
+    },
+    Edit {
+        module: "permitted",
+        old: "temperature_term(coefficient, «errors.oil_temperature»)",
+        new: &[("by the density error", "errors.density_temperature")],
+    },
+    Edit {
+        module: "permitted",
+        old: "= «nearest(u64::from(errors.density) * factor, MILLION)»;",
+        new: &[("without G", "u64::from(errors.density)")],
+    },
+    Edit {
+        module: "permitted",
+        old: "= «nearest(density_temperature * factor, MILLION)»;",
+        new: &[
+            ("without G", "density_temperature"),
+            (
+                "rounded once",
+                "nearest(coefficient * u64::from(errors.density_temperature) * factor, \
+                 10_000 * MILLION)",
+            ),
+        ],
+    },
+    Edit {
+        module: "permitted",
+        old: "+ «oil_temperature.pow(2)»",
+        new: &[("times G", "nearest(oil_temperature * factor, MILLION).pow(2)")],
+    },
+    Edit {
+        module: "permitted",
+        old: "«nearest(MILLION * at(temperature), at(150))»",
+        new: &[
+            ("upside down", "nearest(MILLION * at(150), at(temperature))"),
+            ("20 degrees below", "nearest(MILLION * at(temperature), at(200))"),
+            ("1", "MILLION"),
+            ("in thousandths", "1_000 * nearest(1_000 * at(temperature), at(150))"),
+            ("not rounded up", "MILLION * at(temperature) / at(150)"),
+        ],
+    },
 ];

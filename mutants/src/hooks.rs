@@ -55,7 +55,7 @@ pub struct Context {
 }
 
 /// The refusals of a car in the order in which they are tested.
-pub const ORDER: [u32; 13] = [10, 11, 12, 13, 14, 15, 23, 16, 17, 18, 19, 20, 21];
+pub const ORDER: [u32; 15] = [10, 11, 12, 13, 14, 15, 23, 16, 17, 18, 19, 20, 21, 24, 25];
 
 /// Two refusals that are tested in the other order, or none.
 static FIRST: AtomicU32 = AtomicU32::new(0);
@@ -238,7 +238,7 @@ pub fn overtaken<T>(first: u32, work: impl FnOnce() -> Result<T, Refusal>) -> Op
 /// The answer of `work` where two of its refusals are tested in the other order.
 pub fn reordered<T>(work: impl Fn() -> Result<T, Refusal>) -> Result<T, Refusal> {
     let first = FIRST.load(Relaxed);
-    if first >= 12 {
+    if first > 0 {
         place(SKIPPED, first);
         let other = overtaken(first, &work);
         place(SKIPPED, 0);

@@ -1,5 +1,5 @@
-//! Counts which wrong programs the conformance kit catches, which only the generator of sheets
-//! does, and which neither: `mutants [OPTION NUMBER]...`; the README has the options.
+//! Counts which wrong programs the conformance kit catches, its sheets and its vectors, which only
+//! the generator of sheets does, and which neither: `mutants [OPTION NUMBER]...`; the README has the options.
 
 mod grid;
 mod hooks;
@@ -10,6 +10,7 @@ mod trial;
 mod turned {
     include!(concat!(env!("OUT_DIR"), "/turned.rs"));
 }
+mod vectors;
 mod wrong;
 
 use std::process::ExitCode;
@@ -32,7 +33,7 @@ pub struct Point {
 
 pub const POINTS: &[Point] = include!(concat!(env!("OUT_DIR"), "/points.rs"));
 
-/// Programs that no sheet tells from the right one, with the reasons.
+/// Programs that no sheet and no vector tells from the right one, with the reasons.
 const EQUIVALENT: &str = include_str!("../EQUIVALENT.md");
 
 struct Options {
@@ -50,24 +51,34 @@ fn main() -> ExitCode {
         return ExitCode::from(2);
     };
     std::panic::set_hook(Box::new(|_| {}));
-    let kit: Vec<Trial> = reference::conformance::cases()
+    let mut kit: Vec<Trial> = reference::conformance::cases()
         .into_iter()
         .take(options.kit)
         .map(|case| Trial::new(case.name.to_string(), case.sheet))
         .collect();
+    let sheets = kit.len();
+    kit.extend(reference::conformance::vectors::all().into_iter().map(Trial::of_vector));
     let drawn = (0..options.sheets)
         .map(|seed| Trial::new(format!("seed {seed}"), reference::sheets::sheet(seed)));
-    let generated: Vec<Trial> = drawn.chain(grid::every_density()).collect();
+    let by_lot = vectors::drawn(options.sheets).map(Trial::of_vector);
+    let generated: Vec<Trial> = drawn.chain(grid::every_density()).chain(by_lot).collect();
     let met = |mutant: &Mutant| kit.iter().chain(&generated).any(|trial| trial.meets(*mutant));
     let (list, unmet): (Vec<Mutant>, Vec<Mutant>) =
         mutants::all().into_iter().step_by(options.every).partition(met);
     let (left, _) = measure(&list, &kit);
     println!("{} wrong programs at {} points", list.len(), POINTS.len());
-    println!("left out, none of these sheets comes to where they go wrong: {}", unmet.len());
+    println!(
+        "left out, none of these sheets and vectors comes to where they go wrong: {}",
+        unmet.len()
+    );
     if options.generator > 1 {
         unmet.iter().for_each(|mutant| println!("unmet: {mutant}"));
     }
-    println!("caught by the {} sheets of the kit: {}", kit.len(), list.len() - left.len());
+    let caught = list.len() - left.len();
+    println!(
+        "caught by the {sheets} sheets and {} vectors of the kit: {caught}",
+        kit.len() - sheets
+    );
     if options.generator > 0 {
         let drawn = &generated[..options.sheets as usize];
         let (missed, _) = measure(&list, drawn);
@@ -88,7 +99,7 @@ fn main() -> ExitCode {
     let (neither, by_seed) = measure(&open, &generated);
     println!("caught by the generator only: {}", open.len() - neither.len());
     println!("caught by neither: {}", neither.len());
-    println!("told apart by no sheet, listed with the reason: {}", listed.len());
+    println!("told apart by no sheet or vector, listed with the reason: {}", listed.len());
     let (_, told) = measure(&listed, &generated);
     for (mutant, name) in &told {
         println!("listed, but told apart by {name}: {mutant}");

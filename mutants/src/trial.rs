@@ -1,33 +1,69 @@
-//! Trying a wrong program on sheets.
+//! Trying a wrong program on sheets, and on cars with given errors.
 
 use std::panic::{self, AssertUnwindSafe};
 
+use reference::conformance::vectors::Vector;
+
 use crate::hooks;
 use crate::mutants::{contexts_of, Mutant};
-use crate::{turned, POINTS};
+use crate::{turned, vectors, POINTS};
 
-/// A sheet, its listing, and the contexts in which the right program meets each point on it.
+/// What a program is asked.
+enum Question {
+    Sheet(Vec<u8>),
+    PermittedError(Vector),
+}
+
+impl Question {
+    /// What the reference answers.
+    fn right(&self) -> Vec<u8> {
+        match self {
+            Self::Sheet(sheet) => reference::listing::of(sheet),
+            Self::PermittedError(vector) => vectors::right(vector),
+        }
+    }
+
+    /// What its copy answers, with whatever is set to go wrong.
+    fn turned(&self) -> Vec<u8> {
+        match self {
+            Self::Sheet(sheet) => turned::listing::of(sheet),
+            Self::PermittedError(vector) => vectors::turned(vector),
+        }
+    }
+}
+
+/// A question, its answer, and the contexts in which the right program meets each point on the way.
 pub struct Trial {
     pub name: String,
-    sheet: Vec<u8>,
-    listing: Vec<u8>,
+    question: Question,
+    answer: Vec<u8>,
     met: Vec<u128>,
 }
 
 impl Trial {
-    /// # Panics
-    ///
-    /// If the rewritten program, with nothing gone wrong, does not give the listing.
+    /// A sheet and its listing.
     pub fn new(name: String, sheet: Vec<u8>) -> Self {
-        let listing = reference::listing::of(&sheet);
-        let mut answered = Vec::new();
-        let met = hooks::met(|| answered = turned::listing::of(&sheet));
-        assert_eq!(answered, listing, "{name}: the copy is not the reference");
-        Self { name, sheet, listing, met }
+        Self::of(name, Question::Sheet(sheet))
     }
 
-    /// Whether the sheet comes to the place where the wrong program goes wrong. Lists of constants
-    /// are made once, so that no sheet is seen to meet them.
+    /// A car with given errors, and its permitted error.
+    pub fn of_vector(vector: Vector) -> Self {
+        Self::of(vector.name.clone(), Question::PermittedError(vector))
+    }
+
+    /// # Panics
+    ///
+    /// If the rewritten program, with nothing gone wrong, does not give the reference's answer.
+    fn of(name: String, question: Question) -> Self {
+        let answer = question.right();
+        let mut answered = Vec::new();
+        let met = hooks::met(|| answered = question.turned());
+        assert_eq!(answered, answer, "{name}: the copy is not the reference");
+        Self { name, question, answer, met }
+    }
+
+    /// Whether the trial comes to the place where the wrong program goes wrong. Lists of constants
+    /// are made once, so that no trial is seen to meet them.
     pub fn meets(&self, mutant: Mutant) -> bool {
         match mutant {
             Mutant::Point(point, _, place) => {
@@ -37,14 +73,14 @@ impl Trial {
         }
     }
 
-    /// Whether the wrong program, which is set, gives another listing, or none.
+    /// Whether the wrong program, which is set, gives another answer, or none.
     fn catches(&self, mutant: Mutant) -> bool {
         if !self.meets(mutant) {
             return false;
         }
         hooks::begin_sheet();
-        let answer = panic::catch_unwind(AssertUnwindSafe(|| turned::listing::of(&self.sheet)));
-        answer.map_or(true, |listing| listing != self.listing)
+        let answer = panic::catch_unwind(AssertUnwindSafe(|| self.question.turned()));
+        answer.map_or(true, |answer| answer != self.answer)
     }
 }
 

@@ -4,6 +4,7 @@
 //! Each hands back what `include/rack.h` says of it, and takes slices of any length.
 
 pub mod random;
+pub mod slices;
 pub mod tuned;
 
 /// Handed back where a lent slice has not the length that is asked for.
@@ -12,12 +13,14 @@ pub const BAD_LENGTH: u32 = 1_000;
 pub const BAD_LETTER: u32 = 1_001;
 
 /// Lengths of lent slices: a line's numbers, readings, types and rows of tables, levels and
-/// capacities, a car's figures, a train.
+/// capacities, a car's figures, its given errors, its figures with the permitted error, a train.
 pub const FIELDS: usize = 14;
 pub const READINGS: usize = 4;
 pub const TABLES: usize = 4;
 pub const PLACES: usize = 1_600;
 pub const FIGURES: usize = 6;
+pub const ERRORS: usize = 6;
+pub const PERMITTED: usize = 8;
 pub const TRAIN: usize = 86;
 
 /// Places of a train: how many numbers it holds, and the first of these. The totals stand before, in
@@ -111,6 +114,23 @@ mod exported {
             capacities_len: usize,
             car: *const u32,
             car_len: usize,
+            figures: *mut u32,
+            figures_len: usize,
+        ) -> u32;
+        pub fn rack_permitted_error(
+            count: u32,
+            types: *const u32,
+            types_len: usize,
+            rows: *const u32,
+            rows_len: usize,
+            levels: *const u32,
+            levels_len: usize,
+            capacities: *const u32,
+            capacities_len: usize,
+            car: *const u32,
+            car_len: usize,
+            errors: *const u32,
+            errors_len: usize,
             figures: *mut u32,
             figures_len: usize,
         ) -> u32;
@@ -268,6 +288,28 @@ pub fn work_out(tables: Tables, car: &[u32], figures: &mut [u32]) -> u32 {
             tables.capacities.len(),
             car.as_ptr(),
             car.len(),
+            figures.as_mut_ptr(),
+            figures.len(),
+        )
+    }
+}
+
+pub fn permitted_error(tables: Tables, car: &[u32], errors: &[u32], figures: &mut [u32]) -> u32 {
+    unsafe {
+        exported::rack_permitted_error(
+            tables.count,
+            tables.types.as_ptr(),
+            tables.types.len(),
+            tables.rows.as_ptr(),
+            tables.rows.len(),
+            tables.levels.as_ptr(),
+            tables.levels.len(),
+            tables.capacities.as_ptr(),
+            tables.capacities.len(),
+            car.as_ptr(),
+            car.len(),
+            errors.as_ptr(),
+            errors.len(),
             figures.as_mut_ptr(),
             figures.len(),
         )

@@ -51,6 +51,8 @@ fn constants_of_the_header() {
         ("TABLES", outside::TABLES),
         ("PLACES", outside::PLACES),
         ("FIGURES", outside::FIGURES),
+        ("ERRORS", outside::ERRORS),
+        ("PERMITTED", outside::PERMITTED),
         ("TRAIN", outside::TRAIN),
         ("TRAIN_HELD", outside::TRAIN_HELD),
         ("TRAIN_NUMBERS", outside::TRAIN_NUMBERS),

@@ -2,7 +2,7 @@
 
 use std::arch::asm;
 
-use outside::{Tables, FIELDS, FIGURES, PLACES, TRAIN};
+use outside::{Tables, ERRORS, FIELDS, FIGURES, PERMITTED, PLACES, TRAIN};
 use reference::{sheets, ANSWER_BYTES};
 
 /// Bytes that the header says are enough.
@@ -60,7 +60,7 @@ fn stack_of(mut operation: &mut dyn FnMut() -> u32) -> usize {
 fn no_operation_takes_more_than_the_header_says() {
     let full = sheets::full_sheet(0);
     let mut answer = [0; ANSWER_BYTES];
-    let mut operations: [(&str, &mut dyn FnMut() -> u32); 16] = [
+    let mut operations: [(&str, &mut dyn FnMut() -> u32); 17] = [
         ("answer_sheet", &mut || outside::answer_sheet(&full, &mut answer).1),
         ("read_line", &mut || outside::read_line(b"E        1\n", &mut 0, &mut [0; FIELDS])),
         ("write_line", &mut || outside::write_line(b'C', &[1; FIELDS], &mut [0; 128], &mut 0)),
@@ -75,6 +75,9 @@ fn no_operation_takes_more_than_the_header_says() {
         ("oil_share", &mut || outside::oil_share(3, 50, 20, &mut 0)),
         ("oil_share_any_grade", &mut || outside::oil_share_any_grade(50, 20, &mut 0)),
         ("work_out", &mut || outside::work_out(TABLES, &CAR, &mut [0; FIGURES])),
+        ("permitted_error", &mut || {
+            outside::permitted_error(TABLES, &CAR, &[0; ERRORS], &mut [0; PERMITTED])
+        }),
         ("train_empty", &mut || outside::train_empty(&mut [1; TRAIN])),
         ("train_enter", &mut || {
             outside::train_enter(&mut [0; TRAIN], TABLES, &CAR, &mut [0; FIGURES])

@@ -4,7 +4,7 @@ use std::ops::RangeInclusive;
 
 use crate::level;
 use crate::mass;
-use crate::refusal::Refusal;
+use crate::refusal::{ensure, Refusal};
 use crate::table::Tables;
 use crate::thermal::{self, Density15, Density20, Stick};
 
@@ -163,13 +163,5 @@ impl Car {
     fn grade(&self) -> Option<&'static Grade> {
         let place = self.grade.checked_sub(1)?;
         LIMITS.get(place as usize)
-    }
-}
-
-fn ensure(condition: bool, otherwise: Refusal) -> Result<(), Refusal> {
-    if condition {
-        Ok(())
-    } else {
-        Err(otherwise)
     }
 }

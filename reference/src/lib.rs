@@ -12,6 +12,7 @@ pub mod line;
 pub mod listing;
 pub mod mass;
 pub mod operations;
+pub mod permitted;
 pub mod refusal;
 pub mod rounding;
 pub mod sheet;

@@ -50,11 +50,24 @@ pub enum Refusal {
     Density20 = 21,
     /// The three readings used of four span more than 3 mm.
     ThreeApart = 23,
+    /// A given error is out of its range.
+    GivenError = 24,
+    /// V0 is 0, or the level term of the permitted error is too large.
+    LevelTerm = 25,
 }
 
 impl Refusal {
     /// The number that the listing shows.
     pub const fn number(self) -> u32 {
         self as u32
+    }
+}
+
+/// Refuses where the condition does not hold.
+pub fn ensure(condition: bool, otherwise: Refusal) -> Result<(), Refusal> {
+    if condition {
+        Ok(())
+    } else {
+        Err(otherwise)
     }
 }

@@ -125,4 +125,18 @@ impl Table<'_> {
         let rise = u64::from(upper.capacity - lower.capacity) * u64::from(level - lower.level);
         100 * u64::from(lower.capacity) + nearest(100 * rise, u64::from(upper.level - lower.level))
     }
+
+    /// The steps of level, in mm, and capacity, in dm³, between the rows around a level that the
+    /// table reaches; on a row, from the row below it.
+    ///
+    /// # Panics
+    ///
+    /// If the level is 0, or the table does not reach it.
+    pub fn steps(&self, level: u32) -> Row {
+        let place = self.rows.partition_point(|row| row.level < level);
+        let (low, high) = (self.rows[place - 1], self.rows[place]);
+        let level = high.level - low.level;
+        let capacity = high.capacity - low.capacity;
+        Row { level, capacity }
+    }
 }

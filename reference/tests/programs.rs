@@ -67,8 +67,10 @@ fn make_conformance_writes_sheets_and_listings() {
     let made = Command::new(env!("CARGO_BIN_EXE_make_conformance")).arg(&folder).status().unwrap();
     assert!(made.success());
     let cases = conformance::cases();
-    // The sheets and listings, the index and the figures on the way.
-    assert_eq!(fs::read_dir(&folder).unwrap().count(), 2 * cases.len() + 2);
+    // The sheets and listings, the index, the figures on the way and the vectors.
+    assert_eq!(fs::read_dir(&folder).unwrap().count(), 2 * cases.len() + 3);
+    let vectors = fs::read_to_string(folder.join("permitted-error.vectors")).unwrap();
+    assert_eq!(vectors, conformance::vectors::file());
     for case in cases {
         assert_eq!(fs::read(folder.join(format!("{}.sheet", case.name))).unwrap(), case.sheet);
         assert_eq!(fs::read(folder.join(format!("{}.listing", case.name))).unwrap(), case.listing);

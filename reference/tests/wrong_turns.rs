@@ -1,6 +1,10 @@
 //! A second calculation that can take a wrong turn: each turn must show on the sheet made for it.
 
+mod roundings;
+
 use reference::conformance::cases;
+
+use roundings::{rounded, Rounding};
 
 /// Places where the rules round.
 #[derive(Clone, Copy, Debug, PartialEq, Eq)]
@@ -16,15 +20,6 @@ enum Step {
     Gross,
     Net,
     Density20,
-}
-
-/// Ways to round that are not the rule's.
-#[derive(Clone, Copy, Debug, PartialEq, Eq)]
-enum Rounding {
-    Down,
-    Up,
-    HalfDown,
-    HalfToEven,
 }
 
 #[derive(Clone, Copy, Debug, PartialEq, Eq)]
@@ -66,21 +61,11 @@ use Step::{
 
 impl Turn {
     fn round(self, step: Step, dividend: u64, divisor: u64) -> u64 {
-        let down = dividend / divisor;
-        let twice_rest = 2 * (dividend % divisor);
-        let up = down + u64::from(twice_rest > 0);
         let rounding = match self {
             Self::Round(turned, rounding) if turned == step => Some(rounding),
             _ => None,
         };
-        match rounding {
-            Some(Down) => down,
-            Some(Up) => up,
-            Some(HalfDown) if twice_rest == divisor => down,
-            Some(HalfToEven) if twice_rest == divisor => down + down % 2,
-            _ if twice_rest >= divisor => up,
-            _ => down,
-        }
+        rounded(rounding, dividend, divisor)
     }
 
     /// The mean level, or refusal 23.

@@ -1,4 +1,4 @@
-// Figures of document 01 that are computed and not proved one by one, and annex Д of 002 where its roundings allow.
+// Figures of document 01 that are computed and not proved one by one, annex Д of 002 where its roundings allow, and those of request (c).
 // What it must write, the file stdout, comes from the separately written code in reference/.
 use libc::STDOUT_FILENO;
 use tankcar::Car;
@@ -11,17 +11,19 @@ use tankcar::Factor;
 use tankcar::LEAST_BUFFER;
 use tankcar::PLACES;
 
-fn say(text: &[u8]) {
+mod permitted; // permitted.rt: the permitted error beside the mass
+
+pub(crate) fn say(text: &[u8]) {
     io::write_all(STDOUT_FILENO, text);
 }
 
 // A number behind a space.
-fn field(n: u64) {
+pub(crate) fn field(n: u64) {
     say(b" ");
     io::print_decimal(STDOUT_FILENO, n);
 }
 
-fn refused(n: u32) {
+pub(crate) fn refused(n: u32) {
     say(b" refused");
     field(n as u64);
     say(b"\n");
@@ -126,4 +128,5 @@ fn main() {
     show_car(tankcar::work_out(d, &levels, &capacities, annex_car()));
     show_sheet(b"");
     show_sheet(b"T        1        2\nR        0        0\nR        1        1\nE        0\n");
+    permitted::show_all();
 }

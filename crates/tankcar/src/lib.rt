@@ -46,6 +46,12 @@ pub use train::Step;
 pub use train::Train;
 pub use train::work_out;
 
+// The permitted error beside the mass of a car.
+pub use accuracy::Errors;
+pub use accuracy::Permitted;
+pub use accuracy::PermittedError;
+pub use permitting::permitted_error;
+
 // A sheet answered; LEAST_BUFFER bytes are the least answer buffer.
 pub use answers::Reply;
 pub use listing::LEAST_BUFFER;

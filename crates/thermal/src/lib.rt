@@ -16,7 +16,7 @@ use heating::Factor;
 mod refusals; // refusals.rt: the limits, and refusals 18 and 19 by their numbers
 mod steps; // steps.rt: steps 4, 5, 6 and 9
 
-// For the crates of the grades and of the masses.
+// For the crates of the grades, of the masses and of the permitted error.
 pub use refusals::HIGHEST_TEMPERATURE;
 pub use refusals::density_refusal;
 pub use refusals::outside_refusal;

@@ -1,11 +1,11 @@
-//! Writes the conformance sheets, their listings, their index and figures on the way:
-//! `make_conformance FOLDER`.
+//! Writes the conformance sheets, their listings, their index and figures on the way, and the vectors
+//! of the permitted error: `make_conformance FOLDER`.
 
 use std::fs;
 use std::path::Path;
 use std::process::ExitCode;
 
-use reference::conformance;
+use reference::conformance::{self, vectors};
 use reference::listing;
 
 fn main() -> ExitCode {
@@ -28,6 +28,7 @@ fn write_cases(folder: &Path) -> std::io::Result<()> {
     let cases = conformance::cases();
     fs::write(folder.join("INDEX.md"), conformance::index::of(&cases))?;
     fs::write(folder.join("STEPS.md"), conformance::steps::of(&cases))?;
+    fs::write(folder.join(vectors::FILE), vectors::file())?;
     for case in cases {
         let listing = listing::of(&case.sheet);
         fs::write(folder.join(format!("{}.sheet", case.name)), &case.sheet)?;

@@ -1,4 +1,5 @@
-//! Small sheets that each try one point of the rules, with the listing each must give.
+//! Small sheets that each try one point of the rules, with the listing each must give; and cars with
+//! given errors, in [`vectors`].
 //!
 //! The listings stand here as constants, worked out by a separate calculation; the tests compare
 //! them with what this package answers.
@@ -27,6 +28,7 @@ pub mod steps;
 mod tables;
 mod text;
 mod totals;
+pub mod vectors;
 mod wide;
 
 /// A sheet, the listing it must give, and a name that says what it tries.

@@ -8,6 +8,7 @@ use std::sync::LazyLock;
 use crate::car::{self, Car, Figures};
 use crate::field;
 use crate::line;
+use crate::permitted::{self, Errors, PermittedError};
 use crate::refusal::Refusal;
 use crate::table::{Row, Tables};
 use crate::thermal::{self, Density15, Density20};
@@ -75,7 +76,7 @@ pub fn write_line(buffer: &mut [u8], letter: u8, numbers: &[u32]) -> Option<usiz
 
 /// A table handed in without a sheet. Rows past those announced are not looked at, and a table has
 /// as many as it announces unless refusal 7 turns that number away.
-#[derive(Clone, Debug)]
+#[derive(Clone, Debug, PartialEq, Eq)]
 pub struct HandedIn {
     pub car_type: u32,
     pub announced: u32,
@@ -184,6 +185,15 @@ pub fn oil_share(water: u32, impurities: u32) -> Result<u32, Refusal> {
 /// A car worked out alone: refusals 7, 8, 10, 12 to 21 and 23.
 pub fn work_out(handed_in: &[HandedIn], car: &Car) -> Result<Figures, Refusal> {
     car.work_out(&check_tables(handed_in)?)
+}
+
+/// A car worked out alone, with its permitted error: refusals 7, 8, 10, 12 to 21 and 23 to 25.
+pub fn permitted_error(
+    handed_in: &[HandedIn],
+    car: &Car,
+    errors: &Errors,
+) -> Result<PermittedError, Refusal> {
+    permitted::work_out(car, &check_tables(handed_in)?, errors)
 }
 
 /// A car entered in a train with the tables that are handed in with it: refusals 7 to 21 and 23.

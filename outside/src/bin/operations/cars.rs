@@ -32,7 +32,7 @@ const LIMITS: [&[u32]; FIELDS] = [
 ];
 
 /// Figures as the exported operations write them.
-fn numbers(figures: Figures) -> [u32; FIGURES] {
+pub fn numbers(figures: Figures) -> [u32; FIGURES] {
     let Figures { number, level, volume, volume_at_15, gross, net } = figures;
     [number, level, volume, volume_at_15, gross, net]
 }
@@ -70,7 +70,7 @@ pub fn low_tables(random: &mut Random) -> Given {
 }
 
 /// Cars of each grade, each with one field, and each two fields, at a limit.
-fn cars_at_limits() -> Vec<[u32; FIELDS]> {
+pub fn cars_at_limits() -> Vec<[u32; FIELDS]> {
     let mut cars = Vec::new();
     for grade in 1..=4 {
         // two that agree; four, of which the three used span 2 mm, 3 mm and 4 mm

@@ -5,6 +5,7 @@
 mod cars;
 mod figures;
 mod lines;
+mod permitted;
 mod tables;
 mod tally;
 mod trains;
@@ -40,6 +41,7 @@ fn main() -> ExitCode {
         figures::oil_share().print(),
         figures::oil_share_any_grade().print(),
         cars::work_out(times).print(),
+        permitted::permitted_error(times).print(),
         trains::train_empty().print(),
         trains::train_enter(times).print(),
     ];

@@ -1,20 +1,13 @@
-//! Times the proved code beside the reference and beside a program tuned by hand, on the same
-//! sheets, in one run of a few seconds.
+//! Sheets answered by the proved code, the reference and the program tuned by hand.
 
 use std::hint::black_box;
-use std::time::{Duration, Instant};
 
 use reference::{sheets, ANSWER_BYTES, SHEET_BYTES};
 
-/// Rounds of the programs by turns; the least time of each counts, which other work on the machine
-/// disturbs least.
-const ROUNDS: usize = 300;
-
-/// About how long one round of one program lasts.
-const ROUND_TIME: Duration = Duration::from_millis(1);
+use crate::timing;
 
 /// The sheet printed in the rules.
-const SMALL: &[u8] = include_bytes!("../../../crates/rack/stdin");
+const SMALL: &[u8] = include_bytes!("../../../../crates/rack/stdin");
 
 type Program = fn(&[u8], &mut [u8]) -> (usize, u32);
 
@@ -22,14 +15,16 @@ type Program = fn(&[u8], &mut [u8]) -> (usize, u32);
 const PROGRAMS: [Program; 3] =
     [outside::answer_sheet, reference::answer_sheet, outside::tuned::answer_sheet];
 
-fn main() {
+/// Prints a line for each kind of sheet.
+pub fn compare_all() {
     let full: Vec<Vec<u8>> = (0..8).map(sheets::full_sheet).collect();
     assert!(full.iter().all(|sheet| sheet.len() == SHEET_BYTES));
     let half: Vec<Vec<u8>> = full.iter().map(|sheet| half_of(sheet)).collect();
     let refused: Vec<Vec<u8>> = full.iter().map(|sheet| with_wrong_end(sheet)).collect();
 
     println!(
-        "Nanoseconds for one sheet, least of {ROUNDS} rounds by turns, and the proved code's time"
+        "Nanoseconds for one sheet, least of {} rounds by turns, and the proved code's time",
+        timing::ROUNDS
     );
     println!("as a multiple of the reference's and of the tuned program's.");
     println!("Each program has one answer buffer, which is not cleared between sheets.");
@@ -50,14 +45,16 @@ fn compare(name: &str, sheets: &[Vec<u8>], number: u32) {
         assert_eq!(answers[0].1, number);
         assert!(answers.iter().all(|answer| *answer == answers[0]), "{name}: answers differ");
     }
-    let passes = passes_of_a_round(sheets);
-    let mut least = [f64::MAX; PROGRAMS.len()];
-    for _ in 0..ROUNDS {
-        for (time, program) in least.iter_mut().zip(PROGRAMS) {
-            *time = time.min(nanoseconds(program, sheets, passes));
+    let mut passes = PROGRAMS.map(|program| {
+        let mut answer = [0; ANSWER_BYTES];
+        move || {
+            for sheet in sheets {
+                black_box(program(black_box(sheet), black_box(&mut answer)));
+            }
         }
-    }
-    let [proved, expected, tuned] = least;
+    });
+    let least = timing::least(passes.each_mut().map(|pass| pass as &mut dyn FnMut()));
+    let [proved, expected, tuned] = least.map(|time| time / sheets.len() as f64);
     let bytes = sheets.iter().map(Vec::len).sum::<usize>() / sheets.len();
     println!(
         "{name:42} {bytes:>6} {proved:>8.0} {expected:>9.0} {tuned:>8.0} {:>11.2} {:>7.2}",
@@ -71,33 +68,6 @@ fn answered(program: Program, sheet: &[u8]) -> (usize, u32, [u8; ANSWER_BYTES]) 
     let mut answer = [0; ANSWER_BYTES];
     let (length, number) = program(sheet, &mut answer);
     (length, number, answer)
-}
-
-/// How often a round goes through the sheets; finding it warms the programs up.
-fn passes_of_a_round(sheets: &[Vec<u8>]) -> u32 {
-    let mut passes = 1;
-    loop {
-        let start = Instant::now();
-        for program in PROGRAMS {
-            nanoseconds(program, sheets, passes);
-        }
-        if start.elapsed() >= PROGRAMS.len() as u32 * ROUND_TIME {
-            return passes;
-        }
-        passes *= 2;
-    }
-}
-
-/// Nanoseconds for one sheet.
-fn nanoseconds(program: Program, sheets: &[Vec<u8>], passes: u32) -> f64 {
-    let mut answer = [0; ANSWER_BYTES];
-    let start = Instant::now();
-    for _ in 0..passes {
-        for sheet in sheets {
-            black_box(program(black_box(sheet), black_box(&mut answer)));
-        }
-    }
-    start.elapsed().as_nanos() as f64 / f64::from(passes) / sheets.len() as f64
 }
 
 /// The first two tables of a full sheet, with thirty cars: the first two tables' own, and others

@@ -1,0 +1,121 @@
+-- `exported_accuracy::rack_permitted_error` meets its contract: the tables, the car and the errors that were copied are those that were lent.
+use Prim.Native.Nat.{ℕ}
+use mathlib.Core.Path.{_≡_, sym, subst, _∙_}
+use mathlib.Core.Bool.{true}
+use mathlib.Core.List.{List}
+use lib.ListN.{length}
+use borrow.Author.Tests.{eqb-true}
+use denote.Ref.{now}
+use Rattle.base.specs.Answer.{Answer, refusal}
+use Rattle.base.proofs.Choice.{both-hold, never}
+use Rattle.reading.specs.Letter.{mostFields}
+use Rattle.table.specs.Table.{Table}
+use Rattle.car.specs.declared.Car.{Car}
+use Rattle.accuracy.specs.declared.Errors.{Errors}
+use Rattle.accuracy.specs.Permitted.{permittedTold, OnlyAnswer}
+use Rattle.exported_parts.specs.Handed.{figuresLeft}
+use Rattle.exported_parts.proofs.Handed.{handed, handed-as, right-sized, wrong-sized}
+use Rattle.exported_cars.proofs.Lengths.{TablesRight, tables-right, tables-copied}
+use Rattle.exported_accuracy.specs.Layout.{errorCount, permittedCount, permittedSized}
+use borrow.Author.Needs.{needs}
+use Rattle.exported_accuracy.proofs.rack_permitted_error.Statement.{statement}
+use Rattle.exported_accuracy.proofs.rack_permitted_error.Tie as tie
+
+abbrev Right : (types rows levels capacities car errors figures : List ℕ) → Type 0
+Right types rows levels capacities car errors figures =
+    (length car ≡ mostFields) × (length errors ≡ errorCount) × (length figures ≡ permittedCount) × TablesRight types rows levels capacities
+
+lengths-right : (types rows levels capacities car errors figures : List ℕ) → permittedSized types rows levels capacities car errors figures ≡ true
+    → Right types rows levels capacities car errors figures
+unfolding permittedSized
+lengths-right types rows levels capacities car errors figures e =
+    let last = both-hold _ _ e in
+    let third = both-hold _ _ (last .0) in
+    let first = both-hold _ _ (third .0) in
+    (eqb-true _ _ (first .0), eqb-true _ _ (first .1), eqb-true _ _ (third .1), tables-right types rows levels capacities (last .1))
+
+-- the answer for equal tables, car and errors
+lent : {ts us : List Table} {c d : Car} {e f : Errors} {a : Answer} → ts ≡ us → c ≡ d → e ≡ f → OnlyAnswer ts c e a → OnlyAnswer us d f a
+lent {us} {c} {d} {e} {a} p q r h =
+    subst (λ (x : Errors). OnlyAnswer us d x a) r (subst (λ (x : Car). OnlyAnswer us x e a) q (subst (λ (x : List Table). OnlyAnswer x c e a) p h))
+
+abbrev start : tie.Then1 → tie.Start
+start c = c .before .before .before .before .before .before .before .before .before .before
+
+right : (c : tie.Then1)
+    → Right
+    (now (start c .args .types))
+    (now (start c .args .rows))
+    (now (start c .args .levels))
+    (now (start c .args .capacities))
+    (now (start c .args .car))
+    (now (start c .args .errors))
+    (now (start c .args .figures))
+right c = lengths-right _ _ _ _ _ _ _ (sym (c .before .permitted-fits .ensures) ∙ c .if1 .taken)
+
+permitted-fits-requires : tie.Need-permitted-fits-requires
+permitted-fits-requires c κs = search needs
+
+directory-of-requires : tie.Need-directory-of-requires
+directory-of-requires c κs = (right (c .before .before) .3 .0, right (c .before .before) .3 .1)
+
+all-places-requires : tie.Need-all-places-requires
+all-places-requires c κs = right (c .before .before .before) .3 .2
+
+all-places-requires-2 : tie.Need-all-places-requires-2
+all-places-requires-2 c κs = right (c .before .before .before .before) .3 .3
+
+errors-of-requires : tie.Need-errors-of-requires
+errors-of-requires c κs = right c .1
+
+car-of-requires : tie.Need-car-of-requires
+car-of-requires c κs = right (c .before) .0
+
+permitted-error-requires : tie.Need-permitted-error-requires
+permitted-error-requires c κs = search needs
+
+hand-over-requires : tie.Need-hand-over-requires
+hand-over-requires c κs = right (c .before .before .before .before .before .before .before .before .before) .2
+
+same-length : tie.Need-same-length
+same-length c = search needs
+
+returns : tie.Need-returns
+returns c =
+    let h = c .before .before in
+    let p = h .before .before in
+    let q = p .before .before .before in
+    let d = q .before .before in
+    let k = d .before in
+    let e = k .before in
+    let t = e .before in
+    record {
+      answer = permittedTold (p .permitted-error .result);
+      only = λ _. lent (tables-copied (d .directory-of .ensures) (q .before .all-places .ensures) (q .all-places2 .ensures)) (k .car-of .ensures) (e .errors-of .ensures) (p .permitted-error .ensures .0);
+      handed = handed-as (h .hand-over .ensures) (right-sized _ (sym (t .before .permitted-fits .ensures) ∙ t .if1 .taken));
+    }
+
+same-length-2 : tie.Need-same-length-2
+same-length-2 c = search needs
+
+returns-2 : tie.Need-returns-2
+returns-2 c =
+    let e = sym (c .before .permitted-fits .ensures) ∙ c .if1 .left in
+    record { answer = refusal 0; only = λ t. never (cc); handed = handed figuresLeft _ (wrong-sized _ e) }
+
+pub rack-permitted-error-spec : {M : Type 1} → statement M
+rack-permitted-error-spec =
+    tie.close
+    (tie.spec
+    permitted-fits-requires
+    errors-of-requires
+    car-of-requires
+    directory-of-requires
+    all-places-requires
+    all-places-requires-2
+    permitted-error-requires
+    hand-over-requires
+    same-length
+    returns
+    same-length-2
+    returns-2)

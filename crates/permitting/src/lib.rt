@@ -1,0 +1,106 @@
+// The permitted error beside the mass of a car by itself: its refusals and its six figures, 24 and 25, then the limit.
+ghost use mathlib.Core.Path.{_≡_};
+ghost use Prim.Native.Nat.{_≤_};
+ghost use Rattle.base.specs.Answer.{accepts, first, figures};
+ghost use Rattle.table.specs.Layout.{tablesOf};
+ghost use Rattle.table.specs.Inner.{Good};
+ghost use Rattle.car.specs.Measured.{v0};
+ghost use Rattle.car.specs.Car.{measured, figuresOf, aloneTests, carTold};
+ghost use Rattle.accuracy.specs.Gauged.{CarGauged};
+ghost use Rattle.accuracy.specs.Permitted.{
+  mostLevelError,
+  levelTermOf,
+  PermittedAnswer,
+  OnlyAnswer,
+  permittedTold,
+};
+ghost use Rattle.accuracy.specs.Card.{PermittedRight};
+use accuracy::Errors;
+use accuracy::Permitted;
+use accuracy::PermittedError;
+use car::Car;
+use car::CarAnswer;
+use car::Figures;
+use gauging::Around;
+use table::Directory;
+use table::PLACES;
+use terms::MOST_SHARE;
+
+// The level term of a car that is accepted, in 0.0001 %.
+fn level_term_on(
+    d: Directory,
+    levels: &[u32; PLACES],
+    capacities: &[u32; PLACES],
+    car: Car,
+    six: Figures,
+    errors: Errors,
+) -> u64
+    requires { ⌜
+        (first (aloneTests (tablesOf d (now levels) (now capacities)) car) ≡ accepts)
+        × (errors .level ≤ mostLevelError)
+        × (six .level ≡ measured car .level)
+        × (six .v0 ≡ v0 (tablesOf d (now levels) (now capacities)) (measured car))
+        ⌝ }
+    ensures { λ r. ⌜ r ≡ levelTermOf (tablesOf d (now (levels .entry)) (now (capacities .entry))) (measured car) errors ⌝ }
+{
+    match capacity::rows_around(d, levels, capacities, car.kind, six.level) {
+        Around::Rows(rows) => terms::level_term(errors.level, rows, six.v0),
+        Around::Refused(_) => 0,
+    }
+}
+
+// The limit beside the figures of a car that is accepted, or the first of 24 and 25.
+fn limit_beside(
+    d: Directory,
+    levels: &[u32; PLACES],
+    capacities: &[u32; PLACES],
+    car: Car,
+    six: Figures,
+    errors: Errors,
+) -> PermittedError
+    requires { ⌜
+        (first (aloneTests (tablesOf d (now levels) (now capacities)) car) ≡ accepts)
+        × (carTold (CarAnswer.Accepted six) ≡ figures (figuresOf (tablesOf d (now levels) (now capacities)) car))
+        ⌝ }
+    ensures { λ r. ⌜ PermittedAnswer (tablesOf d (now (levels .entry)) (now (capacities .entry))) car errors (permittedTold r) ⌝ }
+{
+    let by_errors = terms::errors_refusal(errors);
+    if by_errors != 0 {
+        return PermittedError::Refused(by_errors);
+    }
+    if six.v0 == 0 {
+        return PermittedError::Refused(25);
+    }
+    let level = level_term_on(d, levels, capacities, car, six, errors);
+    if (MOST_SHARE as u64) < level {
+        return PermittedError::Refused(25);
+    }
+    let b = thermal::expansion(car.density);
+    let limit = terms::limit_of(terms::sum_of_squares(errors, level, b, car.temperature));
+    PermittedError::Limit(Permitted {
+        figures: six,
+        limit,
+        within: terms::is_within(limit, six.gross),
+    })
+}
+
+// The refusals of the car alone, 24 and 25; or its six figures, the limit of the permitted error of its gross mass, in 0.0001 %, and
+// whether that is within what is allowed.
+pub fn permitted_error(
+    d: Directory,
+    levels: &[u32; PLACES],
+    capacities: &[u32; PLACES],
+    car: Car,
+    errors: Errors,
+) -> PermittedError
+    ensures { λ r. ⌜
+        OnlyAnswer (tablesOf d (now (levels .entry)) (now (capacities .entry))) car errors (permittedTold r)
+        × CarGauged (tablesOf d (now (levels .entry)) (now (capacities .entry))) car errors
+        × PermittedRight
+        ⌝ }
+{
+    match train::work_out(d, levels, capacities, car) {
+        CarAnswer::Accepted(six) => limit_beside(d, levels, capacities, car, six, errors),
+        CarAnswer::Refused(number) => PermittedError::Refused(number),
+    }
+}

@@ -1,0 +1,80 @@
+//! The permitted error of a car as the reference and its rewritten copy answer it.
+
+use reference::car::FIELDS;
+use reference::conformance::vectors::{self, Vector};
+use reference::permitted::ERRORS;
+
+use crate::hooks;
+use crate::turned;
+
+/// What a caller sees: the figures, the limit and whether it is within, or the refusal.
+macro_rules! seen {
+    ($answer:expr) => {
+        match $answer {
+            Ok(permitted) => {
+                format!("{:?} {} {}", permitted.figures, permitted.limit, permitted.within)
+            }
+            Err(refusal) => refusal.number().to_string(),
+        }
+        .into_bytes()
+    };
+}
+
+pub fn right(vector: &Vector) -> Vec<u8> {
+    seen!(vector.work_out())
+}
+
+pub fn turned(vector: &Vector) -> Vec<u8> {
+    seen!(hooks::reordered(|| work_out(vector)))
+}
+
+fn work_out(
+    vector: &Vector,
+) -> Result<turned::permitted::PermittedError, turned::refusal::Refusal> {
+    let mut tables = turned::table::Tables::new();
+    for table in &vector.tables {
+        tables.begin(table.car_type, table.announced)?;
+        for row in &table.rows {
+            tables.add(turned::table::Row { level: row.level, capacity: row.capacity })?;
+        }
+    }
+    let car = turned::car::Car::from(<[u32; FIELDS]>::from(vector.car));
+    let errors = turned::permitted::Errors::from(<[u32; ERRORS]>::from(vector.errors));
+    turned::permitted::work_out(&car, &tables, &errors)
+}
+
+/// Vectors of the kit with level, temperature, density and errors by lot.
+pub fn drawn(count: u64) -> impl Iterator<Item = Vector> {
+    let kit = vectors::all();
+    (0..count).map(move |seed| {
+        let mut vector = kit[seed as usize % kit.len()].clone();
+        let mut draw = Draw(seed);
+        vector.name = format!("vector by lot {seed}");
+        let level = draw.between(1, 3_600);
+        vector.car.readings = [level, level, 0, 0];
+        vector.car.given = 2;
+        vector.car.temperature = draw.between(400, 900);
+        vector.car.density = draw.between(9_000, 9_900);
+        vector.errors = [10_000, 10_000, 10_000, 20, 20, 100]
+            .map(|highest| {
+                let top = [0, highest / 10, highest, highest + 1][draw.between(0, 3) as usize];
+                draw.between(0, top)
+            })
+            .into();
+        vector
+    })
+}
+
+/// Numbers that look drawn by lot, the same for the same seed.
+struct Draw(u64);
+
+impl Draw {
+    /// A number from `low` to `high`, both included.
+    fn between(&mut self, low: u32, high: u32) -> u32 {
+        self.0 = self.0.wrapping_add(0x9e37_79b9_7f4a_7c15);
+        let mut bits = self.0;
+        bits = (bits ^ (bits >> 30)).wrapping_mul(0xbf58_476d_1ce4_e5b9);
+        bits = (bits ^ (bits >> 27)).wrapping_mul(0x94d0_49bb_1331_11eb);
+        low + ((bits >> 32) % u64::from(high - low + 1)) as u32
+    }
+}

@@ -1,0 +1,126 @@
+//! The file of vectors: one line for each, with its answer.
+
+use super::{groups, Vector};
+use crate::car::{Car, Figures, FIELDS};
+use crate::operations::HandedIn;
+use crate::permitted::{Errors, PermittedError, Terms, ERRORS};
+use crate::refusal::Refusal;
+use crate::table::Row;
+
+/// What stands before the vectors.
+const HEAD: &str = "\
+# The permitted error beside the mass: document 02, request (c). Made by make_conformance.
+#
+# A case is one line. Its parts stand between bars:
+#   name
+#   tables   type: level capacity, level capacity, ...; the next table behind a semicolon (mm, dm³)
+#   car      the fourteen fields of its C line
+#   errors   capacity, density, processing (0.0001 %), density temperature, oil temperature (0.1 °C),
+#            level (0.1 mm)
+# and behind them, for a car that is turned away, the number of its refusal alone; for any other:
+#   terms    L, tRho, tOil, G, dens, dtmp, S: the terms of the level and of the two temperatures, G of
+#            formula (17), the density error and tRho times G, and the sum of the squares of
+#            capacity, L, dens, dtmp, tOil and processing (0.0001 %, G in millionths)
+#   figures  those of the car's A line: number, mean level, V0, V15, gross, net (mm, 0.01 dm³, kg)
+#   limit    n (0.0001 %), then yes where it is within 0.65 %, from 100,000 kg gross on 0.50 %, else no
+# Terms are shown to find a fault by; what must come out are figures and limit, or the refusal.
+# Lines that begin with # and empty lines are no cases.
+";
+
+/// The whole file, with the answers of this package.
+pub fn file() -> String {
+    let mut text = String::from(HEAD);
+    for group in groups() {
+        text.push_str(&format!("\n# {}\n", group.about));
+        for vector in group.vectors {
+            text.push_str(&format!("{} | {}\n", question(&vector), answer(&vector.work_out())));
+        }
+    }
+    text
+}
+
+/// The vectors of a file, each with its answer.
+///
+/// # Panics
+///
+/// If a line is not a vector's.
+pub fn read(file: &str) -> Vec<(Vector, &str)> {
+    let cases = file.lines().filter(|line| !line.is_empty() && !line.starts_with('#'));
+    cases.map(read_line).collect()
+}
+
+/// Name, tables, car and errors.
+fn question(vector: &Vector) -> String {
+    let tables: Vec<String> = vector.tables.iter().map(table_text).collect();
+    let car = words(<[u32; FIELDS]>::from(vector.car));
+    let errors = words(<[u32; ERRORS]>::from(vector.errors));
+    format!("{} | {} | {car} | {errors}", vector.name, tables.join("; "))
+}
+
+/// An answer as it stands on a line.
+pub fn answer(answer: &Result<PermittedError, Refusal>) -> String {
+    match answer {
+        Err(refusal) => refusal.number().to_string(),
+        Ok(PermittedError { figures, terms, limit, within }) => {
+            let within = if *within { "yes" } else { "no" };
+            format!("{} | {} | {limit} {within}", terms_text(terms), figures_text(figures))
+        }
+    }
+}
+
+fn terms_text(terms: &Terms) -> String {
+    words([
+        terms.level,
+        terms.density_temperature,
+        terms.oil_temperature,
+        terms.factor,
+        terms.density_by_factor,
+        terms.density_temperature_by_factor,
+        terms.squares,
+    ])
+}
+
+fn figures_text(figures: &Figures) -> String {
+    let Figures { number, level, volume, volume_at_15, gross, net } = *figures;
+    words([number, level, volume, volume_at_15, gross, net])
+}
+
+fn table_text(table: &HandedIn) -> String {
+    let rows: Vec<String> =
+        table.rows.iter().map(|row| format!("{} {}", row.level, row.capacity)).collect();
+    format!("{}: {}", table.car_type, rows.join(", "))
+}
+
+fn words<T: ToString, const N: usize>(numbers: [T; N]) -> String {
+    numbers.map(|number| number.to_string()).join(" ")
+}
+
+fn read_line(line: &str) -> (Vector, &str) {
+    let mut parts = line.splitn(5, " | ");
+    let mut part = || parts.next().unwrap_or_else(|| panic!("no vector: {line}"));
+    let vector = Vector {
+        name: part().to_string(),
+        tables: part().split("; ").filter(|text| !text.is_empty()).map(read_table).collect(),
+        car: Car::from(numbers::<FIELDS>(part())),
+        errors: Errors::from(numbers::<ERRORS>(part())),
+    };
+    (vector, part())
+}
+
+fn read_table(text: &str) -> HandedIn {
+    let (car_type, rows) = text.split_once(": ").expect("a type and rows");
+    let rows: Vec<Row> = rows
+        .split(", ")
+        .map(|row| {
+            let [level, capacity] = numbers(row);
+            Row { level, capacity }
+        })
+        .collect();
+    let [car_type] = numbers(car_type);
+    HandedIn { car_type, announced: rows.len() as u32, rows }
+}
+
+fn numbers<const N: usize>(text: &str) -> [u32; N] {
+    let numbers: Vec<u32> = text.split(' ').map(|word| word.parse().expect("a number")).collect();
+    numbers.try_into().expect("as many numbers as there are fields")
+}
