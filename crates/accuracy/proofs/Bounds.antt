@@ -5,14 +5,13 @@ use mathlib.Core.Bool.{false}
 use native.Mathlib.Nat.{mul-le-mul, mul-le-mul-left}
 use native.Mathlib.Omega.{arith}
 use borrow.Author.Tests.{ltb-false}
-use Rattle.base.specs.Total.{total}
 use Rattle.base.proofs.Choice.{neither}
 use Rattle.base.proofs.Rounding.{round-high, round-most}
 use Rattle.heating.specs.Limits.{highestTemperature}
 use Rattle.heating.specs.Inner.{mostExpansion}
 use Rattle.accuracy.specs.declared.Errors.{Errors}
-use Rattle.accuracy.specs.Terms.{temperatureTerm, densityFactor, timesFactor, terms, sumOfSquares}
-use Rattle.accuracy.specs.Permitted.{mostShare, mostTemperatureError, errorsBad}
+use Rattle.accuracy.specs.Terms.{temperatureTerm, densityFactor, timesFactor}
+use Rattle.accuracy.specs.Permitted.{mostShare, mostTemperatureError, mostLevelTerm, errorsBad}
 use Rattle.accuracy.specs.Inner.{ErrorsInRange, mostTemperatureTerm, mostDensityFactor, mostSum}
 
 pub errors-in-range : (e : Errors) → errorsBad e ≡ false → ErrorsInRange e
@@ -51,7 +50,7 @@ pub density-temperature-term-most : {x g : ℕ} → x ≤ mostTemperatureTerm �
 density-temperature-term-most h i = times-factor-most mostTemperatureTerm 1_716 (omega arith) h i
 
 -- the sum of the six squares
-pub sum-most : {a l d k o p : ℕ} → a ≤ mostShare → l ≤ mostShare → d ≤ 11_130 → k ≤ 1_716 → o ≤ mostTemperatureTerm → p ≤ mostShare
+pub sum-most : {a l d k o p : ℕ} → a ≤ mostShare → l ≤ mostLevelTerm → d ≤ 11_130 → k ≤ 1_716 → o ≤ mostTemperatureTerm → p ≤ mostShare
     → a * a + l * l + d * d + k * k + o * o + p * p ≤ mostSum
 sum-most ha hl hd hk ho hp =
     omega (arith, mul-le-mul ha ha, mul-le-mul hl hl, mul-le-mul hd hd, mul-le-mul hk hk, mul-le-mul ho ho, mul-le-mul hp hp)

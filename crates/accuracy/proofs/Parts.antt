@@ -13,7 +13,7 @@ use Rattle.car.specs.declared.Car.{Car}
 use Rattle.car.specs.Measured.{v0}
 use Rattle.car.specs.Car.{measured, aloneTests}
 use Rattle.accuracy.specs.declared.Errors.{Errors}
-use Rattle.accuracy.specs.Permitted.{mostShare, levelTermOf, errorsBad, errorTests, termTests, permittedTests}
+use Rattle.accuracy.specs.Permitted.{mostLevelTerm, levelTermOf, errorsBad, errorTests, termTests, permittedTests}
 use Rattle.accuracy.specs.Inner.{ErrorsInRange}
 use Rattle.accuracy.proofs.Bounds.{errors-in-range}
 
@@ -42,8 +42,8 @@ module _ (ts : List Table) (c : Car) (e : Errors) where
       pub no-volume : v0 ts (measured c) ≡ 0 → first (permittedTests ts c e) ≡ refuses 25
       no-volume q = from-term h z ∙ rw (eq-eqb (v0 ts (measured c)) 0 q)
 
-      pub too-large : mostShare < levelTermOf ts (measured c) e → first (permittedTests ts c e) ≡ refuses 25
-      too-large q = from-term h z ∙ rw (lt-ltb mostShare (levelTermOf ts (measured c) e) q, or-true (eqb (v0 ts (measured c)) 0))
+      pub too-large : mostLevelTerm < levelTermOf ts (measured c) e → first (permittedTests ts c e) ≡ refuses 25
+      too-large q = from-term h z ∙ rw (lt-ltb mostLevelTerm (levelTermOf ts (measured c) e) q, or-true (eqb (v0 ts (measured c)) 0))
 
-      pub all-passed : (v0 ts (measured c) ≡ 0 → ⊥) → levelTermOf ts (measured c) e ≤ mostShare → first (permittedTests ts c e) ≡ accepts
-      all-passed n q = from-term h z ∙ rw (ne-eqb (v0 ts (measured c)) 0 n, le-ltb mostShare (levelTermOf ts (measured c) e) q)
+      pub all-passed : (v0 ts (measured c) ≡ 0 → ⊥) → levelTermOf ts (measured c) e ≤ mostLevelTerm → first (permittedTests ts c e) ≡ accepts
+      all-passed n q = from-term h z ∙ rw (ne-eqb (v0 ts (measured c)) 0 n, le-ltb mostLevelTerm (levelTermOf ts (measured c) e) q)

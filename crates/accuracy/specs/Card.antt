@@ -4,7 +4,6 @@ use Prim.Native.Nat.{ℕ}
 use mathlib.Core.Path.{_≡_}
 use mathlib.Core.Bool.{Bool, true, false}
 use mathlib.Core.List.{List, [], _∷_, map}
-use lib.ListN.{getD}
 use Rattle.base.specs.Answer.{Answer, figures, refusal}
 use Rattle.base.specs.Lists.{Each}
 use Rattle.table.specs.Table.{Table, rowOf}

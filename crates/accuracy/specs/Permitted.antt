@@ -44,7 +44,7 @@ termsOf ts m e = terms e (levelTermOf ts m e) (expansion (m .density .0)) (m .te
 
 -- The refusals.
 
--- the most of an error in 0.0001 %, of a temperature error in 0.1 °C and of the level error in 0.1 mm
+-- the most of an error in 0.0001 %, of a temperature error in 0.1 °C, of the level error in 0.1 mm, and of the level term
 abbrev pub mostShare : ℕ
 mostShare = 10_000
 
@@ -53,6 +53,9 @@ mostTemperatureError = 20
 
 abbrev pub mostLevelError : ℕ
 mostLevelError = 100
+
+abbrev pub mostLevelTerm : ℕ
+mostLevelTerm = 10_000
 
 -- 24: a given error is out of its range
 abbrev pub errorsBad : Errors → Bool
@@ -66,7 +69,7 @@ errorsBad e =
 
 -- 25: V0 is 0 or the level term exceeds 10,000
 abbrev pub levelTermBad : List Table → Measured → Errors → Bool
-levelTermBad ts m e = eqb (v0 ts m) 0 || ltb mostShare (levelTermOf ts m e)
+levelTermBad ts m e = eqb (v0 ts m) 0 || ltb mostLevelTerm (levelTermOf ts m e)
 
 abbrev pub errorTests : Errors → List Test
 errorTests e = refuseIf 24 (errorsBad e) ∷ []

@@ -7,7 +7,7 @@ use native.Mathlib.Omega.{arith}
 use lib.Dec.{eqb}
 use lib.ListN.{getD}
 use borrow.Author.Tests.{ltb-false, leb-false, eqb-false, le-ltb, le-leb, lt-leb, ne-eqb}
-use Rattle.base.specs.Answer.{Test, refuseIf, Verdict, accepts, refuses, first, firstNumber, Answer, figures, refusal, answer}
+use Rattle.base.specs.Answer.{refuseIf, Verdict, accepts, refuses, first, firstNumber, Answer, figures, refusal, answer}
 use Rattle.base.specs.Limits.{inUnits, greatestCapacity}
 use Rattle.base.proofs.Choice.{never, neither}
 use Rattle.base.proofs.Answer.{not-applied, refused-append, accepted-append, answer-figures, answer-refusal}

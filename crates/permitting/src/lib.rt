@@ -3,9 +3,9 @@ ghost use mathlib.Core.Path.{_≡_};
 ghost use Prim.Native.Nat.{_≤_};
 ghost use Rattle.base.specs.Answer.{accepts, first, figures};
 ghost use Rattle.table.specs.Layout.{tablesOf};
-ghost use Rattle.table.specs.Inner.{Good};
 ghost use Rattle.car.specs.Measured.{v0};
 ghost use Rattle.car.specs.Car.{measured, figuresOf, aloneTests, carTold};
+ghost use Rattle.train.specs.Demand3.{Close, InOrder};
 ghost use Rattle.accuracy.specs.Gauged.{CarGauged};
 ghost use Rattle.accuracy.specs.Permitted.{
   mostLevelError,
@@ -24,7 +24,7 @@ use car::Figures;
 use gauging::Around;
 use table::Directory;
 use table::PLACES;
-use terms::MOST_SHARE;
+use terms::MOST_LEVEL_TERM;
 
 // The level term of a car that is accepted, in 0.0001 %.
 fn level_term_on(
@@ -72,7 +72,7 @@ fn limit_beside(
         return PermittedError::Refused(25);
     }
     let level = level_term_on(d, levels, capacities, car, six, errors);
-    if (MOST_SHARE as u64) < level {
+    if MOST_LEVEL_TERM < level {
         return PermittedError::Refused(25);
     }
     let b = thermal::expansion(car.density);
@@ -96,6 +96,8 @@ pub fn permitted_error(
     ensures { λ r. ⌜
         OnlyAnswer (tablesOf d (now (levels .entry)) (now (capacities .entry))) car errors (permittedTold r)
         × CarGauged (tablesOf d (now (levels .entry)) (now (capacities .entry))) car errors
+        × Close (tablesOf d (now (levels .entry)) (now (capacities .entry))) (measured car) (permittedTold r)
+        × InOrder (tablesOf d (now (levels .entry)) (now (capacities .entry))) (measured car) (permittedTold r)
         × PermittedRight
         ⌝ }
 {

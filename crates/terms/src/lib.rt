@@ -11,7 +11,13 @@ ghost use Rattle.heating.specs.Inner.{mostExpansion};
 ghost use Rattle.accuracy.specs.Terms;
 ghost use Rattle.accuracy.specs.Terms.{sumOfSquares};
 ghost use Rattle.accuracy.specs.Limit.{IsLimit, within};
-ghost use Rattle.accuracy.specs.Permitted.{mostShare, mostLevelError, mostTemperatureError, errorTests};
+ghost use Rattle.accuracy.specs.Permitted.{
+  mostShare,
+  mostTemperatureError,
+  mostLevelError,
+  mostLevelTerm,
+  errorTests,
+};
 ghost use Rattle.accuracy.specs.Inner.{
   ErrorsInRange,
   mostTemperatureTerm,
@@ -23,12 +29,14 @@ use accuracy::Errors;
 use gauging::Neighbours;
 use thermal::UNITY;
 
-// The most of an error in 0.0001 %, and of the level term; of a temperature error in 0.1 °C; of the level error in 0.1 mm.
-pub const MOST_SHARE: u32 = 10_000;
+// The most of an error in 0.0001 %, of a temperature error in 0.1 °C, of the level error in 0.1 mm, and of the level term.
+const MOST_SHARE: u32 = 10_000;
 
 const MOST_TEMPERATURE_ERROR: u32 = 20;
 
 const MOST_LEVEL_ERROR: u32 = 100;
+
+pub const MOST_LEVEL_TERM: u64 = 10_000;
 
 // The limit of the greatest sum of squares.
 const MOST_LIMIT: u64 = 22_789;
@@ -99,7 +107,7 @@ fn times_factor(term: u64, factor: u64) -> u64
 
 // The sum of the squares of the six terms, for the level term.
 pub fn sum_of_squares(e: Errors, level: u64, b: u32, temperature: u32) -> u64
-    requires { ⌜ ErrorsInRange e × (level ≤ mostShare) × (b ≤ mostExpansion) × (temperature ≤ highestTemperature) ⌝ }
+    requires { ⌜ ErrorsInRange e × (level ≤ mostLevelTerm) × (b ≤ mostExpansion) × (temperature ≤ highestTemperature) ⌝ }
     ensures { λ r. ⌜ (r ≡ sumOfSquares (Terms.terms e level b temperature)) × (r ≤ mostSum) ⌝ }
 {
     let factor = density_factor(b, temperature);

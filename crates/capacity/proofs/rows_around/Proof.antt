@@ -2,7 +2,7 @@
 -- what is found after the table's first row is found after the row `low`, which does not reach the level.
 use Prim.Native.Nat.{ℕ, suc, _+_, _-_, _*_, _≤_, _<_}
 use mathlib.Core.Bool.{false}
-use mathlib.Core.List.{List, [], _∷_}
+use mathlib.Core.List.{List, _∷_}
 use mathlib.Core.Path.{_≡_, refl, sym, ap, _∙_, subst}
 use mathlib.Core.Logic.{⊎-elim}
 use native.Mathlib.Nat.{sub-zero, le-antisymm}
@@ -20,9 +20,8 @@ use Rattle.table.proofs.Arrays.{one-left, none-left, rowAt, rows-first, rows-no
 use Rattle.table.proofs.Rising.{First, first-row, rising-from}
 use Rattle.gauging.specs.Capacity.{Gap}
 use Rattle.gauging.specs.Inner.{Reaches, gapAt, gapOf, Between, gapNumbers, aroundAnswer, aroundTold, RowsFound}
-use Rattle.gauging.specs.declared.Neighbours.{Neighbours}
 use Rattle.gauging.specs.declared.Around.{Around}
-use Rattle.gauging.specs.declared.Around.the-variants.{Rows, Refused}
+use Rattle.gauging.specs.declared.Around.the-variants.{Refused}
 use Rattle.gauging.proofs.Search.{foundAfter, none-reaches, row-passed, row-reaches, table-chosen, table-skipped, rows-skipped}
 use Rattle.capacity.proofs.rows_around.Statement.{statement}
 use Rattle.capacity.proofs.rows_around.Tie as tie

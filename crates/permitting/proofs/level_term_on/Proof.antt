@@ -1,6 +1,6 @@
 -- `permitting::level_term_on` meets its contract: an accepted car's level is on its table, so that the rows around it are found.
 use Prim.Native.Nat.{ℕ}
-use mathlib.Core.Path.{_≡_, ap, ap₂, _∙_}
+use mathlib.Core.Path.{ap, ap₂, _∙_}
 use mathlib.Core.List.{List}
 use native.Mathlib.Omega.{arith}
 use denote.Ref.{now}

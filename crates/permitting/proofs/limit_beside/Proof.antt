@@ -14,13 +14,12 @@ use Rattle.heating.proofs.Bounds.{expansion-most}
 use Rattle.grading.specs.Inner.{FieldsInRange}
 use Rattle.car.specs.declared.Car.{Car}
 use Rattle.car.specs.declared.Figures.{Figures}
-use Rattle.car.specs.declared.CarAnswer.the-variants.{Accepted}
 use Rattle.car.specs.Measured.{v0, gross, mass, sixFigures}
-use Rattle.car.specs.Car.{measured, figuresOf, carTold}
+use Rattle.car.specs.Car.{measured}
 use Rattle.car.proofs.Accepted.{passed-alone, fields}
 use Rattle.accuracy.specs.Limit.{IsLimit, within}
 use Rattle.accuracy.specs.Terms.{terms, sumOfSquares}
-use Rattle.accuracy.specs.Permitted.{termsOf, levelTermOf, oneIf, eightFigures}
+use Rattle.accuracy.specs.Permitted.{termsOf, oneIf}
 use Rattle.accuracy.proofs.Answers.{limited, turned-away}
 use Rattle.accuracy.proofs.Parts.{errors-away, in-range, no-volume, too-large, all-passed}
 use borrow.Author.Needs.{needs}
@@ -69,9 +68,6 @@ level-term-on-requires c κs =
     let k = c .before .before in
     let s = k .before .before in
     (s .pre .0, in-range (all s) (s .args .car) (s .args .errors) (s .pre .0) (k .before .errors-refusal .ensures) (k .if1 .left) .level, shown s .level, shown s .v0)
-
-cast-if3 : tie.Need-cast-if3
-cast-if3 c = search needs
 
 returns-3 : tie.Need-returns-3
 returns-3 c =
@@ -125,7 +121,6 @@ limit-beside-spec =
     returns
     returns-2
     level-term-on-requires
-    cast-if3
     returns-3
     expansion-requires
     sum-of-squares-requires

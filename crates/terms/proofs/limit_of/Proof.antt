@@ -1,9 +1,9 @@
 -- `terms::limit_of` meets its contract. The invariant: `high` is enough, and whatever is enough is not below `low`.
-use Prim.Native.Nat.{ℕ, _+_, _-_, _*_, _/_, _≤_, _<_}
+use Prim.Native.Nat.{ℕ, _+_, _-_, _*_, _/_, _≤_}
 use mathlib.Core.Path.{_≡_}
 use native.Mathlib.Nat.{mul-le-mul}
 use native.Mathlib.Omega.{arith}
-use Rattle.accuracy.specs.Inner.{mostSum, mostLimit}
+use Rattle.accuracy.specs.Inner.{mostLimit}
 use Rattle.accuracy.proofs.Limit.{above-short}
 use Rattle.terms.proofs.limit_of.Statement.{statement}
 use Rattle.terms.proofs.limit_of.Tie as tie

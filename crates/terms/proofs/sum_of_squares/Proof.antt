@@ -1,6 +1,6 @@
 -- `terms::sum_of_squares` meets its contract: each term is below its bound, and so is the sum of their squares.
 use Prim.Native.Nat.{ℕ, _+_, _*_, _≤_}
-use mathlib.Core.Path.{_≡_, sym, ap, ap₂, _∙_}
+use mathlib.Core.Path.{_≡_}
 use native.Mathlib.Omega.{arith}
 use Rattle.base.specs.Total.{total}
 use Rattle.accuracy.specs.Terms.{temperatureTerm, densityFactor, timesFactor, terms, sumOfSquares}
