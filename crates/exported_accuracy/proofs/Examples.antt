@@ -3,7 +3,7 @@ use Prim.Native.Nat.{ℕ}
 use mathlib.Core.Path.{_≡_, refl}
 use mathlib.Core.Bool.{Bool, true, false}
 use lib.ListN.{replicate}
-use Rattle.exported_cars.specs.Layout.{tablesSized}
+use Rattle.marshalling.specs.Layout.{tablesSized}
 use Rattle.exported_accuracy.specs.Layout.{permittedSized}
 
 -- whether these lengths of types, levels, car, errors and figures are taken

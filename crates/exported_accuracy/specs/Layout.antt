@@ -9,8 +9,8 @@ use Rattle.table.specs.Table.{Table}
 use Rattle.car.specs.declared.Car.{Car}
 use Rattle.accuracy.specs.declared.Errors.{Errors}
 use Rattle.accuracy.specs.Permitted.{OnlyAnswer}
-use Rattle.exported_parts.specs.Handed.{lengthIs, sized, Handed, figuresLeft}
-use Rattle.exported_cars.specs.Layout.{tablesSized}
+use Rattle.marshalling.specs.Handed.{lengthIs, sized, Handed, figuresLeft}
+use Rattle.marshalling.specs.Layout.{tablesSized}
 
 -- the six errors; the six figures, the limit, and 1 where it is within, 0 where not
 abbrev pub errorCount : ℕ

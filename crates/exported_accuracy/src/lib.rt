@@ -3,8 +3,8 @@ ghost use mathlib.Core.Path.{_≡_};
 ghost use lib.ListN.{length};
 ghost use Rattle.car.specs.Car.{carOf};
 ghost use Rattle.accuracy.specs.Permitted.{errorsOf, oneIf, permittedTold};
-ghost use Rattle.exported_parts.specs.Handed.{Handed, figuresLeft};
-ghost use Rattle.exported_cars.specs.Layout.{tablesLent};
+ghost use Rattle.marshalling.specs.Handed.{Handed, figuresLeft};
+ghost use Rattle.marshalling.specs.Layout.{tablesLent};
 ghost use Rattle.exported_accuracy.specs.Layout.{
   errorCount,
   permittedCount,
@@ -13,11 +13,11 @@ ghost use Rattle.exported_accuracy.specs.Layout.{
 };
 use accuracy::Errors;
 use accuracy::PermittedError;
-use exported_cars::car_of;
-use exported_cars::directory_of;
-use exported_cars::tables_fit;
-use exported_parts::BAD_LENGTH;
-use exported_parts::all_places;
+use marshalling::BAD_LENGTH;
+use marshalling::all_places;
+use marshalling::car_of;
+use marshalling::directory_of;
+use marshalling::tables_fit;
 use reading::MOST_FIELDS;
 
 // How many errors are given, and how many numbers are shown: six figures, the limit, and 1 or 0.
@@ -93,7 +93,7 @@ fn hand_over(answer: PermittedError, figures: &mut [u32]) -> u32
                 p.limit,
                 within,
             ];
-            exported_parts::copy(&eight, figures);
+            marshalling::copy(&eight, figures);
             0
         }
         PermittedError::Refused(number) => number,

@@ -5,7 +5,8 @@ use Prim.Native.Nat.{ℕ}
 use mathlib.Core.List.{List, [], _∷_}
 use lib.ListN.{replicate}
 use Rattle.train.specs.declared.Train.{Train}
-use Rattle.exported_cars.specs.Layout.{tablesSized, carSized, trainNumbers, trainOf, trainPlaces}
+use Rattle.marshalling.specs.Layout.{tablesSized}
+use Rattle.exported_cars.specs.Layout.{carSized, trainNumbers, trainOf, trainPlaces}
 
 -- of all cars 5 · 2³² + 7 kg and 2³² + 6 kg, each as a low and a high half; each grade's totals in their place
 abbrev example : Train

@@ -20,10 +20,10 @@ use Rattle.summing.specs.declared.Sums.{Sums}
 use Rattle.train.specs.declared.Train.{Train}
 use Rattle.summing.specs.Sums.{Shown, totalsFrom, noTotals, gradesWith}
 use Rattle.train.specs.Train.{admissionTests, carShown, afterBy, enterTrain}
-use Rattle.exported_parts.specs.Handed.{lengthIs}
+use Rattle.marshalling.specs.Handed.{lengthIs}
 use Rattle.exported_cars.specs.Layout.{half, joined, totalsPlaces, totalsAt, totalsNumbers, sumsPlaces, trainPlaces, trainOf, gradesNumbers, sumsNumbers, trainNumbers, carSized, trainSized, TrainHanded}
-use Rattle.exported_parts.proofs.Handed.{kept}
-use Rattle.exported_parts.proofs.Copying.{put-whole}
+use Rattle.marshalling.proofs.Handed.{kept}
+use Rattle.marshalling.proofs.Copying.{put-whole}
 
 -- The totals of the grades, one after another.
 

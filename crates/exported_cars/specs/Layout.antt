@@ -4,29 +4,15 @@ use mathlib.Core.Path.{_≡_}
 use mathlib.Core.Bool.{Bool, true, cond, _&&_}
 use mathlib.Core.List.{List, [], _∷_, _++_}
 use lib.ListN.{getD, drop}
-use Rattle.base.specs.Limits.{mostTables, mostCars, gradeCount}
+use Rattle.base.specs.Limits.{mostCars, gradeCount}
 use Rattle.base.specs.Answer.{Answer, first, answer}
 use Rattle.reading.specs.Letter.{mostFields}
-use Rattle.table.specs.declared.Directory.{Directory}
 use Rattle.table.specs.Table.{Table, tablesTests}
-use Rattle.table.specs.Layout.{places, tablesOf}
 use Rattle.summing.specs.declared.Totals.{Totals}
 use Rattle.summing.specs.declared.Sums.{Sums}
 use Rattle.train.specs.declared.Train.{Train}
-use Rattle.exported_parts.specs.Handed.{lengthIs}
-
--- Tables.
-
-abbrev pub directoryOf : ℕ → List ℕ → List ℕ → Directory
-directoryOf count types rows = record { count = count; types = types; rows = rows }
-
--- so many tables, by their types, how many rows each has, and the places of levels and capacities
-abbrev pub tablesLent : ℕ → List ℕ → List ℕ → List ℕ → List ℕ → List Table
-tablesLent count types rows levels capacities = tablesOf (directoryOf count types rows) levels capacities
-
-unfoldable pub tablesSized : List ℕ → List ℕ → List ℕ → List ℕ → Bool
-tablesSized types rows levels capacities =
-    lengthIs mostTables types && lengthIs mostTables rows && lengthIs places levels && lengthIs places capacities
+use Rattle.marshalling.specs.Handed.{lengthIs}
+use Rattle.marshalling.specs.Layout.{tablesSized}
 
 -- tables by themselves: 7, 8, or no figures at all
 abbrev pub tablesAnswer : List Table → Answer

@@ -1,28 +1,16 @@
 // A car worked out alone, and the running train.
 ghost use mathlib.Core.Path.{_≡_};
 ghost use lib.ListN.{length};
-ghost use Rattle.reading.specs.Letter.{mostFields};
 ghost use Rattle.car.specs.Car.{carOf, aloneAnswer, carTold};
 ghost use Rattle.train.specs.Train.{emptyTrain, enterAnswer, enterTrain};
 ghost use Rattle.base.specs.Answer.{figures};
-ghost use Rattle.exported_parts.specs.Handed.{lengthIs, sized, Handed, figuresLeft};
-ghost use Rattle.exported_cars.specs.Layout.{
-  tablesLent,
-  carSized,
-  trainSized,
-  figureCount,
-  trainPlaces,
-  trainOf,
-  trainNumbers,
-  TrainHanded,
-};
-use crate::tables;
+ghost use Rattle.marshalling.specs.Handed.{lengthIs, sized, Handed, figuresLeft};
+ghost use Rattle.marshalling.specs.Layout.{tablesLent};
+ghost use Rattle.exported_cars.specs.Layout.{carSized, trainSized, figureCount, trainPlaces, trainOf, trainNumbers, TrainHanded};
 use crate::trains;
 use crate::trains::TRAIN_PLACES;
-use car::Car;
 use car::CarAnswer;
-use exported_parts::BAD_LENGTH;
-use heating::Density15;
+use marshalling::BAD_LENGTH;
 use reading::MOST_FIELDS;
 use train::Train;
 
@@ -46,27 +34,7 @@ fn car_fits(
     if figures.len() != FIGURES {
         return false;
     }
-    tables::tables_fit(types, rows, levels, capacities)
-}
-
-// A car by the fourteen numbers of its C line.
-pub fn car_of(numbers: &[u32]) -> Car
-    requires { ⌜ length (now numbers) ≡ mostFields ⌝ }
-    ensures { λ r. ⌜ r ≡ carOf (now (numbers .entry)) ⌝ }
-{
-    Car {
-        number: numbers[0],
-        kind: numbers[1],
-        grade: numbers[2],
-        stick: numbers[3],
-        count: numbers[4],
-        readings: [numbers[5], numbers[6], numbers[7], numbers[8]],
-        water_level: numbers[9],
-        temperature: numbers[10],
-        density: Density15(numbers[11]),
-        water: numbers[12],
-        impurities: numbers[13],
-    }
+    marshalling::tables_fit(types, rows, levels, capacities)
 }
 
 // Hands a car's answer over: its six figures, or the refusal.
@@ -77,7 +45,7 @@ fn hand_over(answer: CarAnswer, figures: &mut [u32]) -> u32
     match answer {
         CarAnswer::Accepted(f) => {
             let six = [f.number, f.level, f.v0, f.v15, f.gross, f.net];
-            exported_parts::copy(&six, figures);
+            marshalling::copy(&six, figures);
             0
         }
         CarAnswer::Refused(number) => number,
@@ -101,10 +69,10 @@ pub extern "C" fn rack_work_out(
         r (now (figures .entry)) (now (figures .exit)) ⌝ }
 {
     if car_fits(types, rows, levels, capacities, car, figures) {
-        let d = tables::directory_of(count, types, rows);
-        let level_places = exported_parts::all_places(levels);
-        let capacity_places = exported_parts::all_places(capacities);
-        let answer = train::work_out(d, &level_places, &capacity_places, car_of(car));
+        let d = marshalling::directory_of(count, types, rows);
+        let level_places = marshalling::all_places(levels);
+        let capacity_places = marshalling::all_places(capacities);
+        let answer = train::work_out(d, &level_places, &capacity_places, marshalling::car_of(car));
         return hand_over(answer, figures);
     }
     BAD_LENGTH
@@ -149,11 +117,11 @@ pub extern "C" fn rack_train_enter(
         return BAD_LENGTH;
     }
     if car_fits(types, rows, levels, capacities, car, figures) {
-        let d = tables::directory_of(count, types, rows);
-        let level_places = exported_parts::all_places(levels);
-        let capacity_places = exported_parts::all_places(capacities);
+        let d = marshalling::directory_of(count, types, rows);
+        let level_places = marshalling::all_places(levels);
+        let capacity_places = marshalling::all_places(capacities);
         let running = trains::train_of(train);
-        let step = running.enter(d, &level_places, &capacity_places, car_of(car));
+        let step = running.enter(d, &level_places, &capacity_places, marshalling::car_of(car));
         let next = step.train;
         trains::write_train(next, train);
         let answer = step.answer;

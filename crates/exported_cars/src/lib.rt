@@ -2,8 +2,3 @@
 mod cars; // cars.rt: a car alone, and the running train
 mod tables; // tables.rt: capacity tables and V0
 mod trains; // trains.rt: how a train lies in a slice
-
-// For crates that export what is worked out of a car and its tables.
-pub use cars::car_of;
-pub use tables::directory_of;
-pub use tables::tables_fit;

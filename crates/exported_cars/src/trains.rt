@@ -3,17 +3,7 @@ ghost use mathlib.Core.Path.{_≡_};
 ghost use Prim.Native.Nat.{_+_, _≤_};
 ghost use lib.ListN.{length};
 ghost use Rattle.base.specs.Buffer.{put};
-ghost use Rattle.exported_cars.specs.Layout.{
-  joined,
-  totalsPlaces,
-  totalsAt,
-  totalsNumbers,
-  sumsPlaces,
-  trainPlaces,
-  trainOf,
-  sumsNumbers,
-  trainNumbers,
-};
+ghost use Rattle.exported_cars.specs.Layout.{joined, totalsPlaces, totalsAt, totalsNumbers, sumsPlaces, trainPlaces, trainOf, sumsNumbers, trainNumbers};
 use base::GRADES;
 use base::MOST_CARS;
 use summing::Sums;
@@ -56,7 +46,7 @@ pub(crate) fn train_of(numbers: &[u32]) -> Train
     ensures { λ r. ⌜ r ≡ trainOf (now (numbers .entry)) ⌝ }
 {
     let mut held = [0u32; MOST_CARS];
-    exported_parts::copy(&numbers[SUMS_PLACES + 1..], &mut held);
+    marshalling::copy(&numbers[SUMS_PLACES + 1..], &mut held);
     let grades = [
         totals_at(numbers, TOTALS_PLACES),
         totals_at(numbers, 2 * TOTALS_PLACES),
@@ -86,7 +76,7 @@ fn write_totals(t: Totals, to: &mut [u32], at: usize)
         (t.net % HALF) as u32,
         (t.net / HALF) as u32,
     ];
-    exported_parts::copy_at(&five, to, at);
+    marshalling::copy_at(&five, to, at);
 }
 
 // Writes the totals of all cars, and of each grade.
@@ -113,5 +103,5 @@ pub(crate) fn write_train(train: Train, to: &mut [u32])
     write_sums(sums, to);
     to[SUMS_PLACES] = train.held;
     let numbers = train.numbers;
-    exported_parts::copy_at(&numbers, to, SUMS_PLACES + 1);
+    marshalling::copy_at(&numbers, to, SUMS_PLACES + 1);
 }

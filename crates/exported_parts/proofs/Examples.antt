@@ -3,7 +3,7 @@ use mathlib.Core.Path.{_≡_, refl}
 use mathlib.Core.List.{[], _∷_}
 use lib.ListN.{replicate}
 use Rattle.base.specs.Answer.{figures}
-use Rattle.exported_parts.specs.Handed.{lengthIs, sized, numberHanded}
+use Rattle.marshalling.specs.Handed.{lengthIs, sized, numberHanded}
 use Rattle.exported_parts.specs.Lines.{letterNamed, writeAnswerBy}
 
 wrong-length : numberHanded (sized (lengthIs 4 (0 ∷ [])) (figures [])) ≡ 1_000

@@ -1,4 +1,2 @@
-pub mod Copying
-pub mod Handed
 pub mod Written
 pub mod Examples

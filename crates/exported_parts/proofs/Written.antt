@@ -8,7 +8,7 @@ use Rattle.reading.specs.declared.letter.Letter.{Letter}
 use Rattle.reading.specs.declared.Found.{Found}
 use Rattle.reading.specs.declared.Found.the-variants.{Is, Nothing}
 use Rattle.line.specs.Writing.{writeAnswer, afterWrite}
-use Rattle.exported_parts.specs.Handed.{badLetter, sized}
+use Rattle.marshalling.specs.Handed.{badLetter, sized}
 use Rattle.exported_parts.specs.Lines.{lineWith, writeAnswerBy, afterWriteBy}
 
 module _ {found : Found} {letter : Letter} {fields numbers : List ℕ} {right : Bool} (e : found ≡ Is letter) (copied : fields ≡ numbers) (r : right ≡ true) where

@@ -13,7 +13,7 @@ use Rattle.reading.specs.declared.Reading.the-variants.{Read, Refused}
 use Rattle.reading.specs.declared.LineRead.{LineRead}
 use Rattle.reading.specs.Reading.{Candidate, candidate, letterAmong}
 use Rattle.line.specs.Writing.{writeAnswer, afterWrite}
-use Rattle.exported_parts.specs.Handed.{badLetter}
+use Rattle.marshalling.specs.Handed.{badLetter}
 
 -- Reading: the lent numbers afterwards, all fourteen of a line that was read; a refusal leaves them.
 

@@ -3,9 +3,7 @@ ghost use Rattle.dip.specs.Level.{meanLevelAnswer};
 ghost use Rattle.dip.specs.Tape.{allowanceAnswer};
 ghost use Rattle.heating.specs.Answers.{expansionAnswer, factorAnswer, density20Answer};
 ghost use Rattle.grading.specs.Answers.{gradeDensity20Answer, gradeOilAnswer, oilAnswer};
-ghost use Rattle.exported_parts.specs.Handed.{lengthIs, sized, figureLeft, Handed};
-use crate::slices;
-use crate::slices::BAD_LENGTH;
+ghost use Rattle.marshalling.specs.Handed.{lengthIs, sized, figureLeft, Handed};
 use dip::Allowance;
 use dip::MeanLevel;
 use grading::OilShare;
@@ -13,6 +11,7 @@ use heating::Density15;
 use heating::DensityAt20;
 use heating::Expansion;
 use heating::Factor;
+use marshalling::BAD_LENGTH;
 
 // The mean level, in mm, of so many of the four readings.
 #[no_mangle]
@@ -22,7 +21,7 @@ pub extern "C" fn rack_mean_level(count: u32, readings: &[u32], level: &mut u32)
     if readings.len() != 4 {
         return BAD_LENGTH;
     }
-    match level::mean_level(count, slices::four(readings)) {
+    match level::mean_level(count, marshalling::four(readings)) {
         MeanLevel::Millimetres(figure) => {
             *level = figure;
             0

@@ -3,10 +3,3 @@
 // operations on tables, cars and the train.
 mod figures; // figures.rt: operations that answer one figure from numbers
 mod lines; // lines.rt: one line read or written
-mod slices; // slices.rt: lent slices copied, and their lengths
-
-pub use slices::BAD_LENGTH;
-pub use slices::all_places;
-pub use slices::copy;
-pub use slices::copy_at;
-pub use slices::four;

@@ -6,11 +6,10 @@ ghost use Rattle.reading.specs.Letter.{mostFields};
 ghost use Rattle.reading.specs.Reading.{any};
 ghost use Rattle.reading.specs.Tests.{lineAnswer};
 ghost use Rattle.line.specs.Alone.{readLine};
-ghost use Rattle.exported_parts.specs.Handed.{lengthIs, sized, figureLeft, Handed};
+ghost use Rattle.marshalling.specs.Handed.{lengthIs, sized, figureLeft, Handed};
 ghost use Rattle.exported_parts.specs.Lines.{letterNamed, numbersLeft, writeAnswerBy, afterWriteBy};
-use crate::slices;
-use crate::slices::BAD_LENGTH;
 use line::Written;
+use marshalling::BAD_LENGTH;
 use reading::Found;
 use reading::Letter;
 use reading::Line;
@@ -37,7 +36,7 @@ pub extern "C" fn rack_read_line(text: &[u8], letter: &mut u8, numbers: &mut [u3
         Reading::Read(found) => {
             *letter = scanning::byte_of(found);
             let fields = read.numbers;
-            slices::copy(&fields, numbers);
+            marshalling::copy(&fields, numbers);
             0
         }
         Reading::Refused(number) => number,
@@ -95,7 +94,7 @@ pub extern "C" fn rack_write_line(
         return BAD_LENGTH;
     }
     let mut fields = [0u32; MOST_FIELDS];
-    slices::copy(numbers, &mut fields);
+    marshalling::copy(numbers, &mut fields);
     match letter_named(letter) {
         Found::Nothing => BAD_LETTER,
         Found::Is(named) => {

@@ -4,8 +4,8 @@ use mathlib.Core.Path.{sym, ap, _∙_}
 use mathlib.Core.List.{[], _∷_}
 use Rattle.base.specs.Answer.{figures}
 use Rattle.accuracy.specs.Permitted.{permittedTold}
-use Rattle.exported_parts.specs.Handed.{figuresLeft}
-use Rattle.exported_parts.proofs.Handed.{handed-into}
+use Rattle.marshalling.specs.Handed.{figuresLeft}
+use Rattle.marshalling.proofs.Handed.{handed-into}
 use borrow.Author.Needs.{needs}
 use Rattle.exported_accuracy.proofs.hand_over.Statement.{statement}
 use Rattle.exported_accuracy.proofs.hand_over.Tie as tie

@@ -13,9 +13,9 @@ use Rattle.table.specs.Table.{Table}
 use Rattle.car.specs.declared.Car.{Car}
 use Rattle.accuracy.specs.declared.Errors.{Errors}
 use Rattle.accuracy.specs.Permitted.{permittedTold, OnlyAnswer}
-use Rattle.exported_parts.specs.Handed.{figuresLeft}
-use Rattle.exported_parts.proofs.Handed.{handed, handed-as, right-sized, wrong-sized}
-use Rattle.exported_cars.proofs.Lengths.{TablesRight, tables-right, tables-copied}
+use Rattle.marshalling.specs.Handed.{figuresLeft}
+use Rattle.marshalling.proofs.Handed.{handed, handed-as, right-sized, wrong-sized}
+use Rattle.marshalling.proofs.Lengths.{TablesRight, tables-right, tables-copied}
 use Rattle.exported_accuracy.specs.Layout.{errorCount, permittedCount, permittedSized}
 use borrow.Author.Needs.{needs}
 use Rattle.exported_accuracy.proofs.rack_permitted_error.Statement.{statement}

@@ -2,8 +2,8 @@
 use mathlib.Core.Path.{sym, ap}
 use borrow.Author.Needs.{needs}
 use Rattle.car.specs.Car.{carTold}
-use Rattle.exported_parts.specs.Handed.{figuresLeft}
-use Rattle.exported_parts.proofs.Handed.{handed-into}
+use Rattle.marshalling.specs.Handed.{figuresLeft}
+use Rattle.marshalling.proofs.Handed.{handed-into}
 use Rattle.exported_cars.proofs.cars.hand_over.Statement.{statement}
 use Rattle.exported_cars.proofs.cars.hand_over.Tie as tie
 

@@ -4,9 +4,9 @@ use borrow.Author.Tests.{eq-eqb, ne-eqb}
 use borrow.Author.Needs.{needs}
 use Rattle.base.specs.Answer.{figures}
 use Rattle.train.specs.Train.{emptyTrain}
-use Rattle.exported_parts.specs.Handed.{figuresLeft}
+use Rattle.marshalling.specs.Handed.{figuresLeft}
 use Rattle.exported_cars.specs.Layout.{trainNumbers}
-use Rattle.exported_parts.proofs.Handed.{handed, handed-into, right-sized, wrong-sized}
+use Rattle.marshalling.proofs.Handed.{handed, handed-into, right-sized, wrong-sized}
 use Rattle.exported_cars.proofs.cars.rack_train_empty.Statement.{statement}
 use Rattle.exported_cars.proofs.cars.rack_train_empty.Tie as tie
 

@@ -11,10 +11,11 @@ use Rattle.table.specs.Table.{Table}
 use Rattle.car.specs.declared.Car.{Car}
 use Rattle.train.specs.declared.Train.{Train}
 use Rattle.train.specs.Train.{enterAnswer, enterTrain}
-use Rattle.exported_parts.specs.Handed.{figuresLeft}
+use Rattle.marshalling.specs.Handed.{figuresLeft}
 use Rattle.exported_cars.specs.Layout.{half, trainNumbers}
-use Rattle.exported_parts.proofs.Handed.{handed, handed-as, right-sized, wrong-sized}
-use Rattle.exported_cars.proofs.Lengths.{CarRight, car-right, tables-copied}
+use Rattle.marshalling.proofs.Handed.{handed, handed-as, right-sized, wrong-sized}
+use Rattle.marshalling.proofs.Lengths.{tables-copied}
+use Rattle.exported_cars.proofs.Lengths.{CarRight, car-right}
 use Rattle.exported_cars.proofs.TrainSlice.{train-handed, train-kept, entered-four, train-wrong, train-sized}
 use Rattle.exported_cars.proofs.cars.rack_train_enter.Statement.{statement}
 use Rattle.exported_cars.proofs.cars.rack_train_enter.Tie as tie

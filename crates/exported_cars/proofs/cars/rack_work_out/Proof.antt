@@ -6,9 +6,10 @@ use denote.Ref.{now}
 use Rattle.table.specs.Table.{Table}
 use Rattle.table.specs.Layout.{tablesOf}
 use Rattle.car.specs.Car.{carOf, aloneAnswer}
-use Rattle.exported_parts.specs.Handed.{figuresLeft}
-use Rattle.exported_parts.proofs.Handed.{handed, handed-as, right-sized, wrong-sized}
-use Rattle.exported_cars.proofs.Lengths.{CarRight, car-right, tables-copied}
+use Rattle.marshalling.specs.Handed.{figuresLeft}
+use Rattle.marshalling.proofs.Handed.{handed, handed-as, right-sized, wrong-sized}
+use Rattle.marshalling.proofs.Lengths.{tables-copied}
+use Rattle.exported_cars.proofs.Lengths.{CarRight, car-right}
 use Rattle.exported_cars.proofs.cars.rack_work_out.Statement.{statement}
 use Rattle.exported_cars.proofs.cars.rack_work_out.Tie as tie
 

@@ -6,10 +6,10 @@ use denote.Ref.{now}
 use Rattle.base.specs.Answer.{first}
 use Rattle.table.specs.Table.{tablesTests}
 use Rattle.table.specs.Layout.{tablesOf}
-use Rattle.exported_parts.specs.Handed.{numberHanded}
+use Rattle.marshalling.specs.Handed.{numberHanded}
 use Rattle.exported_cars.specs.Layout.{tablesAnswer}
-use Rattle.exported_parts.proofs.Handed.{number-answered, right-sized, wrong-sized}
-use Rattle.exported_cars.proofs.Lengths.{TablesRight, tables-right, tables-copied}
+use Rattle.marshalling.proofs.Handed.{number-answered, right-sized, wrong-sized}
+use Rattle.marshalling.proofs.Lengths.{TablesRight, tables-right, tables-copied}
 use Rattle.exported_cars.proofs.tables.rack_check_tables.Statement.{statement}
 use Rattle.exported_cars.proofs.tables.rack_check_tables.Tie as tie
 

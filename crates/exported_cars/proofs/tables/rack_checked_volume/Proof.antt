@@ -6,10 +6,10 @@ use denote.Ref.{now}
 use Rattle.base.specs.Answer.{Answer}
 use Rattle.table.specs.Table.{Table}
 use Rattle.gauging.specs.Capacity.{volumeTold, volumeAnswer}
-use Rattle.exported_parts.specs.Handed.{figureLeft, sized}
-use Rattle.exported_cars.specs.Layout.{tablesLent, tablesSized}
-use Rattle.exported_parts.proofs.Handed.{handed, right-sized, wrong-sized}
-use Rattle.exported_cars.proofs.Lengths.{TablesRight, tables-right, tables-copied}
+use Rattle.marshalling.specs.Handed.{figureLeft, sized}
+use Rattle.marshalling.specs.Layout.{tablesLent, tablesSized}
+use Rattle.marshalling.proofs.Handed.{handed, right-sized, wrong-sized}
+use Rattle.marshalling.proofs.Lengths.{TablesRight, tables-right, tables-copied}
 use Rattle.exported_cars.proofs.tables.rack_checked_volume.Statement.{statement}
 use Rattle.exported_cars.proofs.tables.rack_checked_volume.Tie as tie
 

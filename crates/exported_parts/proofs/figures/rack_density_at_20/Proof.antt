@@ -2,8 +2,8 @@
 use mathlib.Core.Path.{sym, ap, _∙_}
 use borrow.Author.Needs.{needs}
 use Rattle.heating.specs.Answers.{density20Told}
-use Rattle.exported_parts.specs.Handed.{figureLeft}
-use Rattle.exported_parts.proofs.Handed.{handed}
+use Rattle.marshalling.specs.Handed.{figureLeft}
+use Rattle.marshalling.proofs.Handed.{handed}
 use Rattle.exported_parts.proofs.figures.rack_density_at_20.Statement.{statement}
 use Rattle.exported_parts.proofs.figures.rack_density_at_20.Tie as tie
 

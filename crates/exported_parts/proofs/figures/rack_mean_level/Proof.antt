@@ -4,8 +4,8 @@ use borrow.Author.Tests.{eq-eqb, ne-eqb}
 use borrow.Author.Needs.{needs}
 use denote.Ref.{now}
 use Rattle.dip.specs.Level.{meanLevelTold, meanLevelAnswer}
-use Rattle.exported_parts.specs.Handed.{lengthIs, sized, figureLeft}
-use Rattle.exported_parts.proofs.Handed.{handed, right-sized, wrong-sized}
+use Rattle.marshalling.specs.Handed.{lengthIs, sized, figureLeft}
+use Rattle.marshalling.proofs.Handed.{handed, right-sized, wrong-sized}
 use Rattle.exported_parts.proofs.figures.rack_mean_level.Statement.{statement}
 use Rattle.exported_parts.proofs.figures.rack_mean_level.Tie as tie
 

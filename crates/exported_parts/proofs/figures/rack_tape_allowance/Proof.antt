@@ -2,8 +2,8 @@
 use mathlib.Core.Path.{sym, ap, _∙_}
 use borrow.Author.Needs.{needs}
 use Rattle.dip.specs.Tape.{allowanceTold}
-use Rattle.exported_parts.specs.Handed.{figureLeft}
-use Rattle.exported_parts.proofs.Handed.{handed}
+use Rattle.marshalling.specs.Handed.{figureLeft}
+use Rattle.marshalling.proofs.Handed.{handed}
 use Rattle.exported_parts.proofs.figures.rack_tape_allowance.Statement.{statement}
 use Rattle.exported_parts.proofs.figures.rack_tape_allowance.Tie as tie
 

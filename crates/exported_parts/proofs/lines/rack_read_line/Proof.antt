@@ -13,9 +13,9 @@ use Rattle.reading.specs.declared.LineRead.{LineRead}
 use Rattle.reading.specs.Reading.{any}
 use Rattle.reading.specs.Tests.{readingTold, lineAnswer}
 use Rattle.line.specs.Alone.{readLine}
-use Rattle.exported_parts.specs.Handed.{lengthIs, sized, figureLeft}
+use Rattle.marshalling.specs.Handed.{lengthIs, sized, figureLeft}
 use Rattle.exported_parts.specs.Lines.{numbersBy, numbersLeft}
-use Rattle.exported_parts.proofs.Handed.{handed, handed-into, right-sized, wrong-sized, kept}
+use Rattle.marshalling.proofs.Handed.{handed, handed-into, right-sized, wrong-sized, kept}
 use Rattle.exported_parts.proofs.lines.rack_read_line.Statement.{statement}
 use Rattle.exported_parts.proofs.lines.rack_read_line.Tie as tie
 

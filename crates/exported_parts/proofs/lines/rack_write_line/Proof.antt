@@ -3,8 +3,8 @@ use mathlib.Core.Path.{sym, ap, _∙_}
 use borrow.Author.Tests.{eq-eqb, ne-eqb}
 use borrow.Author.Needs.{needs}
 use Rattle.line.specs.Writing.{writtenTold}
-use Rattle.exported_parts.specs.Handed.{figureLeft}
-use Rattle.exported_parts.proofs.Handed.{handed, wrong-sized, kept}
+use Rattle.marshalling.specs.Handed.{figureLeft}
+use Rattle.marshalling.proofs.Handed.{handed, wrong-sized, kept}
 use Rattle.exported_parts.proofs.Written.{answer-by, after-by, answer-none, after-none}
 use Rattle.exported_parts.proofs.lines.rack_write_line.Statement.{statement}
 use Rattle.exported_parts.proofs.lines.rack_write_line.Tie as tie

@@ -1,8 +1,8 @@
--- `exported_cars::tables_fit` meets its contract: each return follows from the tests before it.
+-- `marshalling::tables_fit` meets its contract: each return follows from the tests before it.
 use Rattle.base.proofs.Tests.{tests}
-use Rattle.exported_cars.specs.Layout.{tablesSized}
-use Rattle.exported_cars.proofs.tables.tables_fit.Statement.{statement}
-use Rattle.exported_cars.proofs.tables.tables_fit.Tie as tie
+use Rattle.marshalling.specs.Layout.{tablesSized}
+use Rattle.marshalling.proofs.tables.tables_fit.Statement.{statement}
+use Rattle.marshalling.proofs.tables.tables_fit.Tie as tie
 
 returns : tie.Need-returns
 unfolding tablesSized

@@ -1,10 +1,10 @@
--- `exported_parts::copy` meets its contract: all of the slice is written anew.
+-- `marshalling::copy` meets its contract: all of the slice is written anew.
 use mathlib.Core.Path.{_∙_}
 use borrow.Author.Needs.{needs}
 use denote.Ref.{now}
-use Rattle.exported_parts.proofs.Copying.{put-whole}
-use Rattle.exported_parts.proofs.slices.copy.Statement.{statement}
-use Rattle.exported_parts.proofs.slices.copy.Tie as tie
+use Rattle.marshalling.proofs.Copying.{put-whole}
+use Rattle.marshalling.proofs.slices.copy.Statement.{statement}
+use Rattle.marshalling.proofs.slices.copy.Tie as tie
 
 copy-at-requires : tie.Need-copy-at-requires
 copy-at-requires c κs = search needs

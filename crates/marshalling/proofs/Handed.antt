@@ -4,7 +4,7 @@ use mathlib.Core.Path.{_≡_, refl, sym, ap, _∙_}
 use mathlib.Core.Bool.{Bool, true, false, cond}
 use mathlib.Core.List.{List}
 use Rattle.base.specs.Answer.{Answer, refusal, Verdict, accepts, refuses, numberOf, answer}
-use Rattle.exported_parts.specs.Handed.{badLength, sized, numberHanded, Handed}
+use Rattle.marshalling.specs.Handed.{badLength, sized, numberHanded, Handed}
 
 pub handed : {A : Type 0} (after : Answer → A → A) (lent : A) {told a : Answer} → told ≡ a → Handed after a (numberHanded told) lent (after told lent)
 handed after lent e = record { number = ap numberHanded e; contents = ap (λ (x : Answer). after x lent) e }

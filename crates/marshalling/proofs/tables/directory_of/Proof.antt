@@ -1,7 +1,7 @@
--- `exported_cars::directory_of` meets its contract: both slices of four are copied.
+-- `marshalling::directory_of` meets its contract: both slices of four are copied.
 use borrow.Author.Needs.{needs}
-use Rattle.exported_cars.proofs.tables.directory_of.Statement.{statement}
-use Rattle.exported_cars.proofs.tables.directory_of.Tie as tie
+use Rattle.marshalling.proofs.tables.directory_of.Statement.{statement}
+use Rattle.marshalling.proofs.tables.directory_of.Tie as tie
 
 four-requires : tie.Need-four-requires
 four-requires c κs = search needs

@@ -1,4 +1,4 @@
--- `exported_parts::copy_at` meets its contract. The loop's invariant: the first i numbers are copied, and `to` is as long as it was.
+-- `marshalling::copy_at` meets its contract. The loop's invariant: the first i numbers are copied, and `to` is as long as it was.
 use Prim.Native.Nat.{ℕ, _+_, _-_, _≤_}
 use mathlib.Core.Path.{_≡_, refl, sym, ap, _∙_}
 use mathlib.Core.List.{List, _++_}
@@ -8,8 +8,8 @@ use native.Mathlib.Numerals.{add-one}
 use lib.ListN.{length, getD, set, take, drop, length-set}
 use lib.Seq.{paste, paste-zero, paste-suc, take-length}
 use denote.Ref.{now}
-use Rattle.exported_parts.proofs.slices.copy_at.Statement.{statement}
-use Rattle.exported_parts.proofs.slices.copy_at.Tie as tie
+use Rattle.marshalling.proofs.slices.copy_at.Statement.{statement}
+use Rattle.marshalling.proofs.slices.copy_at.Tie as tie
 
 abbrev Inv-loop : tie.InvT-loop
 Inv-loop from to₀ at i₀ to i = (to ≡ paste to₀ at from i) × (i ≤ length from) × (length to ≡ length to₀)
