@@ -1,6 +1,6 @@
 pub mod Limit
 pub mod Answers
 pub mod AgainstCard
-pub mod Gauged
+pub mod Shown
 pub mod Bounds
 pub mod Parts

@@ -1,6 +1,6 @@
 pub mod Terms
 pub mod Limit
 pub mod Permitted
-pub mod Gauged
+pub mod Shown
 pub mod Card
 pub mod Inner

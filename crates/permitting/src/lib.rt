@@ -6,7 +6,6 @@ ghost use Rattle.table.specs.Layout.{tablesOf};
 ghost use Rattle.car.specs.Measured.{v0};
 ghost use Rattle.car.specs.Car.{measured, figuresOf, aloneTests, carTold};
 ghost use Rattle.train.specs.Demand3.{Close, InOrder};
-ghost use Rattle.accuracy.specs.Gauged.{CarGauged};
 ghost use Rattle.accuracy.specs.Permitted.{
   mostLevelError,
   levelTermOf,
@@ -14,6 +13,7 @@ ghost use Rattle.accuracy.specs.Permitted.{
   OnlyAnswer,
   permittedTold,
 };
+ghost use Rattle.accuracy.specs.Shown.{ShownRight};
 ghost use Rattle.accuracy.specs.Card.{PermittedRight};
 use accuracy::Errors;
 use accuracy::Permitted;
@@ -95,7 +95,7 @@ pub fn permitted_error(
 ) -> PermittedError
     ensures { λ r. ⌜
         OnlyAnswer (tablesOf d (now (levels .entry)) (now (capacities .entry))) car errors (permittedTold r)
-        × CarGauged (tablesOf d (now (levels .entry)) (now (capacities .entry))) car errors
+        × ShownRight (tablesOf d (now (levels .entry)) (now (capacities .entry))) car errors (permittedTold r)
         × Close (tablesOf d (now (levels .entry)) (now (capacities .entry))) (measured car) (permittedTold r)
         × InOrder (tablesOf d (now (levels .entry)) (now (capacities .entry))) (measured car) (permittedTold r)
         × PermittedRight

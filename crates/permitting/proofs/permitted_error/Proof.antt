@@ -13,13 +13,13 @@ use Rattle.car.specs.declared.CarAnswer.the-variants.{Accepted, Refused}
 use Rattle.car.specs.Car.{measured, figuresOf, aloneTests, aloneAnswer, carTold}
 use Rattle.train.specs.Demand3.{Close, InOrder}
 use Rattle.accuracy.specs.declared.Errors.{Errors}
-use Rattle.accuracy.specs.Gauged.{CarGauged}
 use Rattle.accuracy.specs.Permitted.{PermittedAnswer, OnlyAnswer, permittedTold}
+use Rattle.accuracy.specs.Shown.{ShownRight}
 use Rattle.accuracy.specs.Card.{PermittedRight}
 use Rattle.accuracy.proofs.Answers.{turned-away, only-answer}
 use Rattle.accuracy.proofs.Parts.{car-away}
 use Rattle.accuracy.proofs.AgainstCard.{permitted-right}
-use Rattle.accuracy.proofs.Gauged.{car-gauged}
+use Rattle.accuracy.proofs.Shown.{shown-right}
 use Rattle.permitting.proofs.Demand3.{permitted-close, permitted-in-order}
 use borrow.Author.Needs.{needs}
 use Rattle.permitting.proofs.permitted_error.Statement.{statement}
@@ -30,8 +30,8 @@ all s = tablesOf (s .args .d) (now (s .args .levels)) (now (s .args .capacities)
 
 -- the other clauses from the first
 whole : (ts : List Table) (c : Car) (e : Errors) (a : Answer) → PermittedAnswer ts c e a
-    → OnlyAnswer ts c e a × CarGauged ts c e × Close ts (measured c) a × InOrder ts (measured c) a × PermittedRight
-whole ts c e a p = (only-answer p, car-gauged ts c e, permitted-close ts c e p, permitted-in-order ts c e p, permitted-right)
+    → OnlyAnswer ts c e a × ShownRight ts c e a × Close ts (measured c) a × InOrder ts (measured c) a × PermittedRight
+whole ts c e a p = (only-answer p, shown-right ts c e p, permitted-close ts c e p, permitted-in-order ts c e p, permitted-right)
 
 -- the car's answer by its cases
 told : (ts : List Table) (c : Car) {six : Figures} → carTold (Accepted six) ≡ aloneAnswer ts c
