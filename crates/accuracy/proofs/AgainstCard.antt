@@ -19,5 +19,5 @@ unfolding termsCard withinCard card rounded total meanLevel interpolated capacit
 permitted-right = record {
   terms = (refl, (refl, (refl, (refl, (refl, (refl, (refl, (refl, (refl, (refl, (refl, tt)))))))))));
   within = (refl, (refl, (refl, (refl, (refl, (refl, (refl, tt)))))));
-  each = (by-test 6_511 refl refl refl, (by-test 6_729 refl refl refl, (by-test 7_669 refl refl refl, (by-test 3_163 refl refl refl, (by-test 5_877 refl refl refl, (by-test 0 refl refl refl, (by-test 2 refl refl refl, (by-test 11 refl refl refl, (by-test 6_500 refl refl refl, (by-test 6_501 refl refl refl, (by-test 6_500 refl refl refl, (by-test 5_001 refl refl refl, (by-test 5_000 refl refl refl, (by-test 19_803 refl refl refl, (turned-away refl, (turned-away refl, (turned-away refl, (turned-away refl, (turned-away refl, (turned-away refl, (by-test 11_000 refl refl refl, (turned-away refl, (by-test 11_000 refl refl refl, (turned-away refl, (turned-away refl, (by-test 0 refl refl refl, (turned-away refl, (turned-away refl, (turned-away refl, (turned-away refl, (turned-away refl, (turned-away refl, (turned-away refl, (turned-away refl, tt))))))))))))))))))))))))))))))))));
+  each = (by-test 6_511 refl refl refl, (by-test 6_729 refl refl refl, (by-test 7_669 refl refl refl, (by-test 3_163 refl refl refl, (by-test 5_877 refl refl refl, (by-test 0 refl refl refl, (by-test 2 refl refl refl, (by-test 11 refl refl refl, (by-test 6_500 refl refl refl, (by-test 6_501 refl refl refl, (by-test 6_500 refl refl refl, (by-test 5_001 refl refl refl, (by-test 5_000 refl refl refl, (by-test 19_803 refl refl refl, (turned-away refl, (turned-away refl, (turned-away refl, (turned-away refl, (turned-away refl, (turned-away refl, (by-test 11_000 refl refl refl, (turned-away refl, (by-test 11_000 refl refl refl, (turned-away refl, (turned-away refl, (turned-away refl, (by-test 0 refl refl refl, (turned-away refl, (turned-away refl, (turned-away refl, (turned-away refl, (turned-away refl, (turned-away refl, (turned-away refl, (turned-away refl, tt)))))))))))))))))))))))))))))))))));
 }

@@ -163,10 +163,11 @@ card =
     ∷ refused 24 firstCar (0 ∷ 0 ∷ 0 ∷ 21 ∷ 0 ∷ 0 ∷ [])
     ∷ refused 24 firstCar (0 ∷ 0 ∷ 0 ∷ 0 ∷ 21 ∷ 0 ∷ [])
     ∷ refused 24 firstCar (0 ∷ 0 ∷ 0 ∷ 0 ∷ 0 ∷ 101 ∷ [])
-    -- 25: a level term of 10,000 passes, also where it is so by R alone; V0 is 0, also without a level error
+    -- 25: a level term of 10,000 passes, also where it is so by R alone, and 10,001 does not; V0 is 0, also without a level error
     ∷ limits (at 1_000 0) (ofLevel 100) (50_000_001 ∷ 1_000 ∷ 2_000_000 ∷ 1_938_580 ∷ 18_417 ∷ 18_288 ∷ 11_000 ∷ 0 ∷ [])
     ∷ refused 25 (at 999 0) (ofLevel 100)
     ∷ gives bentTables (at 1_989 971) (ofLevel 99) (figures (50_000_001 ∷ 1_989 ∷ 2_969_900 ∷ 2_878_694 ∷ 27_348 ∷ 27_157 ∷ 11_000 ∷ 0 ∷ []))
+    ∷ gives bentTables (at 1_299 971) (ofLevel 30) (refusal 25)
     ∷ gives flatTables (at 17 0) none (refusal 25)
     ∷ gives flatTables (at 19 18) none (refusal 25)
     ∷ gives flatTables (at 18 0) none (figures (50_000_001 ∷ 18 ∷ 1 ∷ 1 ∷ 0 ∷ 0 ∷ 0 ∷ 1 ∷ []))
