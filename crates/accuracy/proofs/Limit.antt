@@ -10,6 +10,13 @@ use borrow.Author.Tests.{leb-true, ltb-true, eqb-true}
 use Rattle.base.proofs.Choice.{below, both-hold}
 use Rattle.accuracy.specs.Limit.{IsLimit}
 
+-- figures beside the laws: 1 is too small for the sum 1, and 12 too large for 100, for which 11 is just enough
+too-small : IsLimit 1 1 → ⊥
+too-small l = omega (arith, l .enough)
+
+too-large : IsLimit 100 12 → ⊥
+too-large l = omega (arith, l .smallest 11 (omega arith))
+
 pub limit-only : {s m n : ℕ} → IsLimit s m → IsLimit s n → m ≡ n
 limit-only {s} {m} {n} a b = le-antisymm (a .smallest n (b .enough)) (b .smallest m (a .enough))
 

@@ -43,7 +43,7 @@ loop-less c = omega arith
 loop-again : tie.Need-loop-again Inv-loop μ-loop
 loop-again c =
     let i = c .before .before .loop .inv in
-    (omega arith, omega arith, c .if1 .taken, i .3)
+    (omega arith, omega arith, omega (arith, c .if1 .taken), i .3)
 
 add-low : tie.Need-add-low Inv-loop μ-loop
 add-low c = omega arith
@@ -56,7 +56,7 @@ loop-again-2 c =
     let i = c .before .before .loop .inv in
     let b = c .before .before .before in
     let m = (c .before .before .loop .low + c .before .before .loop .high) / 2 in
-    (omega arith, i .1, i .2, λ k h. omega (arith, above-short (b .args .sum) m (c .if1 .left) k h))
+    (omega arith, i .1, i .2, λ k h. omega (arith, above-short (b .args .sum) m (omega (arith, c .if1 .left)) k h))
 
 cast-result : tie.Need-cast-result Inv-loop μ-loop
 cast-result c = omega arith
