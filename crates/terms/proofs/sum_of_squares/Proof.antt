@@ -39,9 +39,13 @@ module _ (c : tie.After-struct-known3) where
   factor-is : factor ≡ densityFactor (start .args .b) (start .args .temperature)
   factor-is = c .before .before .before .before .before .before .before .density-factor .ensures .0
 
-  whole : let e = start .args .e in
+  -- what the code adds up
+  abbrev added : ℕ
+  added =
+      let e = start .args .e in
       e .capacity * e .capacity + start .args .level * start .args .level + density * density + density-temperature * density-temperature + oil-temperature * oil-temperature + e .processing * e .processing
-      ≤ mostSum
+
+  whole : added ≤ mostSum
   whole =
       let r = start .pre .0 in
       let g = c .before .before .before .before .before .before .before .density-factor .ensures .1 in
@@ -49,9 +53,7 @@ module _ (c : tie.After-struct-known3) where
       let t : density-temperature ≤ 1_716 = omega (arith, density-temperature-is, density-temperature-term-most (c .before .before .before .before .temperature-term .ensures .1) g) in
       sum-most (r .capacity) (start .pre .1) d t (c .before .before .temperature-term2 .ensures .1) (r .processing)
 
-  same : let e = start .args .e in
-      e .capacity * e .capacity + start .args .level * start .args .level + density * density + density-temperature * density-temperature + oil-temperature * oil-temperature + e .processing * e .processing
-      ≡ sumOfSquares (terms e (start .args .level) (start .args .b) (start .args .temperature))
+  same : added ≡ sumOfSquares (terms (start .args .e) (start .args .level) (start .args .b) (start .args .temperature))
   unfolding terms total
   same =
       let o : oil-temperature ≡ temperatureTerm (start .args .b) (start .args .e .«oil_temperature») = c .before .before .temperature-term2 .ensures .0 in
