@@ -101,14 +101,15 @@ fn show(rows: Rows, car: Car, errors: Errors) {
     }
 }
 
-pub(crate) fn show_all() {
+// The first car of document 01's sheet, on a row and above one, with smaller errors and with none; one rounding twice, and a level term
+// of 10,000 and above.
+fn show_rack() {
     let rack = Rows {
         count: 4,
         levels: [0, 1000, 2000, 3000],
         capacities: [0, 20000, 50000, 70000],
     };
     let ordinary = errors_of([5000, 1600, 500], [5, 5], 30);
-    let none = errors_of([0, 0, 0], [0, 0], 0);
     let level_alone = errors_of([0, 0, 0], [0, 0], 100);
     show(rack, rack_car(1500, 0), ordinary);
     show(rack, rack_car(1000, 0), ordinary);
@@ -118,22 +119,28 @@ pub(crate) fn show_all() {
         rack_car(2000, 0),
         errors_of([2500, 500, 500], [2, 2], 20),
     );
+    show(rack, rack_car(1500, 0), errors_of([0, 0, 0], [0, 0], 0));
+    show(rack, rack_car(1500, 0), errors_of([0, 0, 0], [1, 0], 0));
+    show(rack, rack_car(1000, 0), level_alone);
+    show(rack, rack_car(999, 0), level_alone);
+}
+
+// Annex Д's car; a level term that is 10,000 by R alone; V0 of 0 and of 1.
+pub(crate) fn show_all() {
+    show_rack();
     let annex = Rows {
         count: 4,
         levels: [0, 100, 2900, 2910],
         capacities: [0, 435, 72959, 73080],
     };
     show(annex, annex_car(), errors_of([5000, 1586, 500], [5, 5], 30));
-    show(rack, rack_car(1500, 0), none);
-    show(rack, rack_car(1500, 0), errors_of([0, 0, 0], [1, 0], 0));
-    show(rack, rack_car(1000, 0), level_alone);
-    show(rack, rack_car(999, 0), level_alone);
     let bent = Rows {
         count: 3,
         levels: [0, 1000, 2000, 0],
         capacities: [0, 1000, 31000, 0],
     };
     show(bent, rack_car(1989, 971), errors_of([0, 0, 0], [0, 0], 99));
+    let none = errors_of([0, 0, 0], [0, 0], 0);
     let flat = Rows {
         count: 2,
         levels: [0, 3600, 0, 0],
