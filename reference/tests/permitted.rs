@@ -56,28 +56,27 @@ fn the_paper_s_vectors() {
     let annex_rows = &[(0, 0), (100, 435), (2_900, 72_959), (2_910, 73_080)];
     let small = [2_500, 500, 500, 2, 2, 20];
     let printed = [5_000, 1_586, 500, 5, 5, 30];
-    let expected = |numbers, within| (numbers, within);
     assert_eq!(
         shown(RACK, CAR, ERRORS),
-        expected([2_571, 359, 1_063_338, 1_701, 382, 35_028_247, 6_511], false)
+        ([2_571, 359, 1_063_338, 1_701, 382, 35_028_247, 6_511], false)
     );
     assert_eq!(
         shown(RACK, at(1_000, 0), ERRORS),
-        expected([3_000, 359, 1_063_338, 1_701, 382, 37_418_206, 6_729], false)
+        ([3_000, 359, 1_063_338, 1_701, 382, 37_418_206, 6_729], false)
     );
     assert_eq!(
         shown(RACK, at(1_001, 0), ERRORS),
-        expected([4_493, 359, 1_063_338, 1_701, 382, 48_605_255, 7_669], false)
+        ([4_493, 359, 1_063_338, 1_701, 382, 48_605_255, 7_669], false)
     );
     assert_eq!(
         shown(RACK, at(2_000, 0), small),
-        expected([1_200, 144, 1_063_338, 532, 153, 8_267_169, 3_163], true)
+        ([1_200, 144, 1_063_338, 532, 153, 8_267_169, 3_163], true)
     );
     assert_eq!(
         shown(annex_rows, annex, printed),
-        expected([500, 353, 1_051_596, 1_668, 371, 28_544_474, 5_877], true)
+        ([500, 353, 1_051_596, 1_668, 371, 28_544_474, 5_877], true)
     );
-    assert_eq!(shown(RACK, CAR, [0; 6]), expected([0, 0, 1_063_338, 0, 0, 0, 0], true));
+    assert_eq!(shown(RACK, CAR, [0; 6]), ([0, 0, 1_063_338, 0, 0, 0, 0], true));
 }
 
 #[test]
