@@ -35,6 +35,11 @@ pub neither : (a b : Bool) → (a || b) ≡ false → (a ≡ false) × (b ≡ fa
 neither true b e = absurd (true≢false e)
 neither false b e = (refl, e)
 
+-- two tests of which one holds, and not the first
+pub second-holds : (a b : Bool) → a ≡ false → (a || b) ≡ true → b ≡ true
+second-holds true b n e = absurd (true≢false n)
+second-holds false b n e = e
+
 -- what holds of both outcomes, each under its test, holds of the choice
 pub cond-either {ℓ} : {A : Type ℓ} (P : A → Type 0) (t : Bool) (x y : A) → (t ≡ true → P x) → (t ≡ false → P y) → P (cond t x y)
 cond-either P true x y f g = f refl

@@ -1,22 +1,35 @@
--- Laws of `outside`, and of `member` over the first elements of a list, as a loop passes them.
-use Prim.Native.Nat.{ℕ, _+_, _≤_, _<_, min}
-use mathlib.Core.Path.{_≡_, ap, sym, _∙_}
+-- Laws of `outside`, of `difference`, and of `member` over the first elements of a list, as a loop passes them.
+use Prim.Native.Nat.{ℕ, _+_, _-_, _≤_, _<_, min}
+use mathlib.Core.Path.{_≡_, refl, ap, sym, _∙_}
 use mathlib.Core.Bool.{Bool, true, false, _||_, or-false, or-true, or-assoc}
-use mathlib.Core.Logic.{⊎-elim}
+use mathlib.Core.Logic.{_⊎_, inl, inr, ⊎-elim}
 use mathlib.Core.List.{List, [], _∷_, _++_}
 use native.Mathlib.Nat.{min-eq-left, min-eq-right}
 use native.Mathlib.Numerals.{add-one}
 use native.Mathlib.Omega.{arith}
 use lib.ListN.{length, getD, take}
 use lib.Seq.{take-suc, take-all, take-length}
-use lib.Dec.{eqb}
-use borrow.Author.Tests.{eq-eqb, ne-eqb, ltb-false}
-use Rattle.base.specs.Numbers.{outside, member}
-use Rattle.base.proofs.Choice.{below, neither}
+use lib.Dec.{ltb, eqb}
+use borrow.Author.Tests.{eq-eqb, ne-eqb, ltb-true, ltb-false}
+use Rattle.base.specs.Numbers.{outside, difference, member}
+use Rattle.base.proofs.Choice.{below, neither, cond-either}
 
 -- a number that is not outside is inside
 pub inside : (low high n : ℕ) → outside low high n ≡ false → (low ≤ n) × (n ≤ high)
 inside low high n e = let h = neither _ _ e in (ltb-false n low (h .0), ltb-false high n (h .1))
+
+-- and one that is outside lies below or above
+pub beyond : (low high n : ℕ) → outside low high n ≡ true → (n < low) ⊎ (high < n)
+beyond low high n e = go (ltb n low) refl e
+  where
+    go : (b : Bool) → ltb n low ≡ b → (b || ltb high n) ≡ true → (n < low) ⊎ (high < n)
+    go true z e = inl (ltb-true n low z)
+    go false z e = inr (ltb-true high n e)
+
+-- for `omega`: of the two differences that stop at 0, one is 0
+pub difference-sum : (a b : ℕ) → difference a b ≡ (a - b) + (b - a)
+difference-sum a b =
+    cond-either (λ (d : ℕ). d ≡ (a - b) + (b - a)) (ltb a b) (b - a) (a - b) (λ e. omega (arith, ltb-true a b e)) (λ e. omega (arith, ltb-false a b e))
 
 pub member-snoc : (x : ℕ) (l : List ℕ) (y : ℕ) → member x (l ++ (y ∷ [])) ≡ (member x l || eqb y x)
 member-snoc x [] y = or-false (eqb y x)

@@ -1,13 +1,17 @@
 -- Small facts on numbers that contracts and definitions cite.
-use Prim.Native.Nat.{ℕ, _<_}
+use Prim.Native.Nat.{ℕ, _-_, _<_}
 use mathlib.Core.Path.{_≡_}
-use mathlib.Core.Bool.{Bool, false, _||_}
+use mathlib.Core.Bool.{Bool, false, cond, _||_}
 use mathlib.Core.List.{List, [], _∷_}
 use lib.Dec.{ltb, eqb}
 
 -- n is not among the numbers from low to high
 abbrev pub outside : ℕ → ℕ → ℕ → Bool
 outside low high n = ltb n low || ltb high n
+
+-- by how much two numbers differ
+abbrev pub difference : ℕ → ℕ → ℕ
+difference a b = cond (ltb a b) (b - a) (a - b)
 
 -- x is an element
 abbrev pub member : ℕ → List ℕ → Bool

@@ -1,9 +1,10 @@
-// What every other crate stands on: R of document 01, a number widened with its bound, the lesser of two, a search, and the limits.
+// What every other crate stands on: R of document 01, a number widened with its bound, the lesser of two, their difference, a search,
+// and the limits.
 ghost use mathlib.Core.Path.{_≡_};
 ghost use Prim.Native.Nat.{min};
 ghost use lib.ListN.{take};
 ghost use Rattle.base.specs.Rounding.{rounded};
-ghost use Rattle.base.specs.Numbers.{Wide, member};
+ghost use Rattle.base.specs.Numbers.{Wide, difference, member};
 
 mod limits;
 
@@ -43,6 +44,16 @@ pub fn lesser(a: usize, b: usize) -> usize
     ensures { λ r. ⌜ r ≡ min a b ⌝ }
 {
     if a < b { a } else { b }
+}
+
+// By how much two numbers differ.
+pub fn difference(a: u32, b: u32) -> u32
+    ensures { λ r. ⌜ r ≡ difference a b ⌝ }
+{
+    if a < b {
+        return b - a;
+    }
+    a - b
 }
 
 // Whether x is among the first n numbers, or among all where there are fewer.

@@ -5,6 +5,7 @@ use mathlib.Core.List.{List, [], _∷_, _++_}
 use lib.Dec.{ltb, leb, eqb}
 use lib.ListN.{getD}
 use Rattle.base.specs.Rounding.{rounded}
+use Rattle.base.specs.Numbers.{difference}
 use Rattle.base.specs.Limits.{levelUnits}
 use Rattle.base.specs.Answer.{Test, refuseIf, first, Answer, figures, refusal, answer}
 use Rattle.dip.specs.declared.MeanLevel.{MeanLevel}
@@ -38,7 +39,7 @@ meanOfThree t = meanOf (getD t 0 0 + getD t 1 0 + getD t 2 0) 3
 
 -- two readings differ by more than 1 mm
 abbrev pub apart : ℕ → ℕ → Bool
-apart a b = ltb 1 (cond (ltb a b) (b - a) (a - b))
+apart a b = ltb 1 (difference a b)
 
 -- the mean level of four readings, of which the last two count only where the first two are apart
 unfoldable pub meanLevel : List ℕ → ℕ

@@ -4,7 +4,7 @@ ghost use mathlib.Core.Bool.{_||_};
 ghost use mathlib.Core.List.{[], _∷_};
 ghost use lib.Dec.{ltb};
 ghost use Rattle.base.specs.Answer.{refuseIf, firstNumber};
-ghost use Rattle.heating.specs.Inner.{DensityInRange};
+ghost use Rattle.heating.specs.Limits.{DensityInRange};
 ghost use Rattle.grading.specs.Grades.{
   byGrade,
   gradeTests,

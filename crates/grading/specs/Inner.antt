@@ -1,7 +1,6 @@
 -- What refusals 18 to 20 leave of a car's fields, for inner functions that ask for it; it is no part of what the refusals mean.
 use Prim.Native.Nat.{ℕ, _+_, _≤_}
-use Rattle.heating.specs.Limits.{lowestTemperature, highestTemperature}
-use Rattle.heating.specs.Inner.{DensityInRange}
+use Rattle.heating.specs.Limits.{lowestTemperature, highestTemperature, DensityInRange}
 
 -- the temperature t, the density r at 15 °C, water w and impurities i are in range
 pub record FieldsInRange (t r w i : ℕ) : Type 0 where

@@ -5,8 +5,8 @@ use native.Mathlib.Omega.{arith}
 use Rattle.base.proofs.Near.{near-self, near-weaken}
 use Rattle.base.proofs.Rounding.{round-le}
 use Rattle.heating.specs.Exact.{seven}
-use Rattle.heating.specs.Limits.{lowestDensity}
-use Rattle.heating.specs.Inner.{DensityInRange, mostAbove15, mostExpansion, mostExponent, mostFactor}
+use Rattle.heating.specs.Limits.{lowestDensity, DensityInRange}
+use Rattle.heating.specs.Inner.{mostAbove15, mostExpansion, mostExponent, mostFactor}
 use Rattle.heating.specs.Steps
 use Rattle.heating.proofs.Budget.{expansionError, expansion-near, exponent-near, factor-near}
 

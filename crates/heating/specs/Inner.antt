@@ -1,11 +1,6 @@
 -- What inner functions ask for; it is no part of what steps 4 to 6 and 9 mean.
-use Prim.Native.Nat.{ℕ, _-_, _≤_}
-use Rattle.heating.specs.Limits.{highestTemperature, lowestDensity, highestDensity}
-
--- the density r at 15 °C is in the range of refusal 19
-pub record DensityInRange (r : ℕ) : Type 0 where
-  pub light : lowestDensity ≤ r
-  pub dense : r ≤ highestDensity
+use Prim.Native.Nat.{ℕ, _-_}
+use Rattle.heating.specs.Limits.{highestTemperature}
 
 -- the most tenths of a degree above 15 °C, and then the most of B, X and E, in their units
 abbrev pub mostAbove15 : ℕ

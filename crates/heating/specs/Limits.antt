@@ -1,5 +1,5 @@
 -- The limits of temperature and of density at 15 °C, and refusals 18, where no grade is given, and 19 of document 01.
-use Prim.Native.Nat.{ℕ}
+use Prim.Native.Nat.{ℕ, _≤_}
 use mathlib.Core.Bool.{Bool}
 use mathlib.Core.List.{List, [], _∷_}
 use Rattle.base.specs.Answer.{Test, refuseIf}
@@ -32,3 +32,8 @@ densityBad r = outside lowestDensity highestDensity r
 
 abbrev pub densityTests : ℕ → List Test
 densityTests r = refuseIf 19 (densityBad r) ∷ []
+
+-- the density r at 15 °C is in the range of 19
+pub record DensityInRange (r : ℕ) : Type 0 where
+  pub light : lowestDensity ≤ r
+  pub dense : r ≤ highestDensity

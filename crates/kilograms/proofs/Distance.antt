@@ -4,8 +4,7 @@ use native.Mathlib.Omega.{arith}
 use Rattle.base.specs.Fraction.{Frac}
 use Rattle.base.proofs.Near.{Near, within-weaken}
 use Rattle.heating.specs.Exact.{Power}
-use Rattle.heating.specs.Limits.{highestTemperature}
-use Rattle.heating.specs.Inner.{DensityInRange}
+use Rattle.heating.specs.Limits.{highestTemperature, DensityInRange}
 use Rattle.kilograms.specs.Steps
 use Rattle.kilograms.specs.Exact
 use Rattle.kilograms.specs.Steps.{stickCoefficient}

@@ -2,8 +2,7 @@
 // Volumes are in 0.01 dm³, temperatures in 0.1 °C, masses in kg, water and impurities in 0.01 %.
 ghost use mathlib.Core.Path.{_≡_};
 ghost use Prim.Native.Nat.{_≤_};
-ghost use Rattle.heating.specs.Inner.{DensityInRange};
-ghost use Rattle.heating.specs.Limits.{lowestTemperature, highestTemperature};
+ghost use Rattle.heating.specs.Limits.{lowestTemperature, highestTemperature, DensityInRange};
 ghost use Rattle.kilograms.specs.Steps;
 ghost use Rattle.kilograms.specs.Distance.{greatestVolume};
 ghost use Rattle.kilograms.specs.Inner.{

@@ -16,12 +16,15 @@ use heating::Factor;
 mod refusals; // refusals.rt: the limits, and refusals 18 and 19 by their numbers
 mod steps; // steps.rt: steps 4, 5, 6 and 9
 
-// For the crates of the grades, of the masses and of the permitted error.
+// For the crates of the grades, of the masses, of the permitted error and of the laboratory's density.
+pub use refusals::HIGHEST_DENSITY;
 pub use refusals::HIGHEST_TEMPERATURE;
+pub use refusals::LOWEST_DENSITY;
 pub use refusals::density_refusal;
 pub use refusals::outside_refusal;
 pub use steps::UNITY;
 pub use steps::density_20;
+pub use steps::density_at;
 pub use steps::expansion;
 pub use steps::factor_at;
 

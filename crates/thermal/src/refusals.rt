@@ -12,9 +12,9 @@ const LOWEST_TEMPERATURE: u32 = 200;
 pub const HIGHEST_TEMPERATURE: u32 = 900;
 
 // The densities at 15 °C, in 0.1 kg/m³.
-const LOWEST_DENSITY: u32 = 9_000;
+pub const LOWEST_DENSITY: u32 = 9_000;
 
-const HIGHEST_DENSITY: u32 = 9_900;
+pub const HIGHEST_DENSITY: u32 = 9_900;
 
 // The number, where x is not from low to high, else 0.
 pub fn outside_refusal(number: u32, low: u32, high: u32, x: u32) -> u32

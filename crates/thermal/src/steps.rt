@@ -4,8 +4,8 @@ ghost use Prim.Native.Nat.{_+_, _*_, _≤_};
 ghost use Rattle.base.specs.Rounding.{rounded};
 ghost use Rattle.heating.specs.Steps;
 ghost use Rattle.heating.specs.Steps.{unity};
+ghost use Rattle.heating.specs.Limits.{DensityInRange};
 ghost use Rattle.heating.specs.Inner.{
-  DensityInRange,
   mostAbove15,
   mostExpansion,
   mostExponent,
@@ -65,7 +65,7 @@ pub fn factor_at(density: Density15, d: u32) -> u64
 }
 
 // Step 9, for any temperature: the density d tenths of a degree above 15 °C, in 0.1 kg/m³.
-fn density_at(density: Density15, d: u32) -> u32
+pub fn density_at(density: Density15, d: u32) -> u32
     requires { ⌜ DensityInRange (density .0) × (d ≤ mostAbove15) ⌝ }
     ensures { λ r. ⌜ r ≡ Steps.densityAt (density .0) d ⌝ }
 {
