@@ -4,7 +4,7 @@
  *
  * Every function but rack_answer_sheet hands back
  *   0                 the operation's figures stand in the places that were lent for them;
- *   2 to 25           the refusal of this number (README.md), the first that applies;
+ *   2 to 27           the refusal of this number (README.md), the first that applies;
  *   RACK_BAD_LENGTH   a slice has not the length that is asked for;
  *   RACK_BAD_LETTER   a byte is no letter of a line (rack_write_line only).
  * Beside any number but 0 nothing is written, but for what rack_train_enter says of its train.
@@ -135,6 +135,13 @@ uint32_t rack_density_at_20(uint32_t density, uint32_t *density_20);
 
 /* The same for a grade, 1 to 4. Refusals 13, 19, 21. */
 uint32_t rack_density_at_20_of_grade(uint32_t grade, uint32_t density, uint32_t *density_20);
+
+/*
+ * The density at 15 C of oil whose density a laboratory reports at its own temperature: of 9,000 to
+ * 9,900 the one whose density at that temperature is nearest to `reported`, the smallest on a tie.
+ * Refusals 26 (200 to 900), 27 (even the nearest differs by more than 1).
+ */
+uint32_t rack_density_at_15(uint32_t reported, uint32_t temperature, uint32_t *density);
 
 /* What is left of 10,000 beside water and impurities of a grade. Refusals 13, 20. */
 uint32_t rack_oil_share(uint32_t grade, uint32_t water, uint32_t impurities, uint32_t *share);

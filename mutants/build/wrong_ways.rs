@@ -1163,4 +1163,65 @@ pub const EDITS: &[Edit] = &[
             ("not rounded up", "MILLION * at(temperature) / at(150)"),
         ],
     },
+    Edit {
+        module: "laboratory",
+        old: "ensure(«TEMPERATURES.contains(&temperature)»,",
+        new: &[
+            ("26 from 400", "(400..=900).contains(&temperature)"),
+            ("26 not below 200", "(150..=900).contains(&temperature)"),
+            ("26 not above 900", "temperature >= 200"),
+            ("26 in 16 bits", "(200..=900).contains(&(temperature as u16))"),
+        ],
+    },
+    Edit {
+        module: "laboratory",
+        old: "let tenths = «temperature - 150»;",
+        new: &[
+            ("from 20 °C", "temperature - 200"),
+            ("the temperature itself", "temperature"),
+            ("whole degrees", "temperature / 10 * 10 - 150"),
+            ("always 20 °C", "50"),
+        ],
+    },
+    Edit {
+        module: "laboratory",
+        old: "(density, «density_at(density, tenths)»)",
+        new: &[
+            ("divided by E", "crate::wrong::comes_to(density.0, tenths, 0)"),
+            ("cut", "crate::wrong::comes_to(density.0, tenths, 1)"),
+            ("B of the field below", "crate::wrong::comes_to(density.0, tenths, 2)"),
+            ("B of the field above", "crate::wrong::comes_to(density.0, tenths, 3)"),
+            ("B of 9,500", "crate::wrong::comes_to(density.0, tenths, 4)"),
+            ("1 less B times d", "crate::wrong::comes_to(density.0, tenths, 5)"),
+            ("in double floating point", "crate::wrong::comes_to(density.0, tenths, 6)"),
+            ("in single floating point", "crate::wrong::comes_to(density.0, tenths, 7)"),
+        ],
+    },
+    Edit {
+        module: "laboratory",
+        old: "let apart = «comes_to.abs_diff(reported)»;",
+        new: &[
+            ("report in 16 bits", "comes_to.abs_diff(reported & 0xffff)"),
+            ("report in 31 bits", "comes_to.abs_diff(reported & 0x7fff_ffff)"),
+            ("report without its sign", "comes_to.abs_diff((reported as i32).unsigned_abs())"),
+            ("only from above", "comes_to.wrapping_sub(reported)"),
+            ("only from below", "reported.wrapping_sub(comes_to)"),
+        ],
+    },
+    Edit {
+        module: "laboratory",
+        old: "if «apart < least» {",
+        new: &[
+            ("the larger of a tie", "apart < least || (apart == 1 && least == 1)"),
+            ("the last that is not above", "comes_to <= reported"),
+        ],
+    },
+    Edit {
+        module: "laboratory",
+        old: "Ok(«found»)",
+        new: &[
+            ("in whole kilograms", "Density15((found.0 + 5) / 10 * 10)"),
+            ("the next field", "Density15(found.0 + 1)"),
+        ],
+    },
 ];

@@ -1,8 +1,11 @@
-//! E of step 6 for every density and every temperature, as a wrong program gives it.
+//! E of step 6 for every density and every temperature, as a wrong program gives it, and the reports
+//! of a laboratory that show it.
 
-use reference::thermal::{contraction, Density15};
+use reference::laboratory::Column;
+use reference::thermal::{contraction, density_at, Density15};
 
 use crate::hooks;
+use crate::hooks::Context;
 use crate::mutants::{contexts_of, Mutant};
 use crate::trial::Trial;
 use crate::turned::thermal as turned;
@@ -34,16 +37,27 @@ fn sheet_of(cars: &[(u32, u32)]) -> Trial {
     Trial::new(format!("every density, from {}", cars[0].1), sheet.into_bytes())
 }
 
-/// Prints whether a wrong program's E differs anywhere, with a volume in 0.01 dm³ that shows it.
+/// Prints whether a wrong program's E differs anywhere, with what shows it.
 pub fn report(mutant: Mutant) {
     let Mutant::Point(point, choice, place) = mutant else { return };
     let here = &POINTS[point];
     let context = contexts_of(point)[place];
-    let at_20 = context.key == hooks::AT && context.low == 20;
-    if here.module != "thermal" || !ON_THE_WAY.contains(&here.function) || at_20 {
+    if here.module != "thermal" {
         return;
     }
     hooks::go_wrong(point, choice, context);
+    let at = if context.key == hooks::AT { context.low } else { 15 };
+    let everywhere = context.key == hooks::ALWAYS;
+    if at == hooks::LABORATORY || (everywhere && here.function == "density_at") {
+        report_densities(mutant);
+    } else if at == 15 && ON_THE_WAY.contains(&here.function) {
+        report_volumes(mutant, context);
+    }
+    hooks::go_wrong(hooks::NONE, 0, contexts_of(0)[0]);
+}
+
+/// Prints how far the wrong program's E is off, with a volume in 0.01 dm³ that shows it.
+fn report_volumes(mutant: Mutant, context: Context) {
     let number = |key| if context.key == key { context.low } else { 0 };
     let grade = number(hooks::GRADE).max(1);
     let temperatures = if grade < 3 { 200..=900 } else { 400..=900 };
@@ -65,7 +79,6 @@ pub fn report(mutant: Mutant) {
             }
         }
     }
-    hooks::go_wrong(hooks::NONE, 0, contexts_of(0)[0]);
     let (apart, density, temperature, wrong) = best;
     let sample = if apart == 0 { 0 } else { shown(density, temperature, wrong) };
     println!("E apart by {apart}: {density} {temperature} {grade} {sample}: {mutant}");
@@ -76,4 +89,35 @@ fn shown(density: u32, temperature: u32, wrong: u64) -> u64 {
     let right = contraction(Density15(density), temperature - 150);
     let round = |volume: u64, by: u64| reference::rounding::nearest(volume * by, 10_000_000_000);
     (1..=20_000_000).rev().find(|&volume| round(volume, right) != round(volume, wrong)).unwrap_or(0)
+}
+
+/// Prints how many reports the wrong program answers otherwise, with the first of them.
+fn report_densities(mutant: Mutant) {
+    let found: Vec<(u32, u32)> = (200..=900).flat_map(turned_reports).collect();
+    match found.first() {
+        Some((reported, temperature)) => {
+            println!("{} reports, as {reported} at {temperature}: {mutant}", found.len());
+        }
+        None => println!("no report: {mutant}"),
+    }
+}
+
+/// The reports at a temperature that the wrong program, which is set, answers otherwise.
+fn turned_reports(temperature: u32) -> Vec<(u32, u32)> {
+    hooks::begin_sheet();
+    hooks::place(hooks::AT, hooks::LABORATORY);
+    let comes_to = |density: u32| density_at(Density15(density), temperature - 150);
+    let turned_to =
+        |density: u32| turned::density_at(turned::Density15(density), temperature - 150);
+    if (9_000..=9_900).all(|density| comes_to(density) == turned_to(density)) {
+        return Vec::new();
+    }
+    let right = Column::at(temperature).expect("a temperature in range");
+    let wrong = crate::turned::laboratory::Column::at(temperature).expect("the same");
+    let differs = |reported: &u32| {
+        right.look_up(*reported).ok().map(|density| density.0)
+            != wrong.look_up(*reported).ok().map(|density| density.0)
+    };
+    let reports = comes_to(9_000) - 2..=comes_to(9_900) + 2;
+    reports.filter(differs).map(|reported| (reported, temperature)).collect()
 }

@@ -54,8 +54,12 @@ pub struct Context {
     pub high: u32,
 }
 
-/// The refusals of a car in the order in which they are tested.
-pub const ORDER: [u32; 15] = [10, 11, 12, 13, 14, 15, 23, 16, 17, 18, 19, 20, 21, 24, 25];
+/// At a laboratory, where the temperature is any: among the numbers of [`AT`], which are degrees.
+pub const LABORATORY: u32 = 100;
+
+/// The refusals of a car, and those of a report, in the order in which they are tested.
+pub const ORDERS: [&[u32]; 2] =
+    [&[10, 11, 12, 13, 14, 15, 23, 16, 17, 18, 19, 20, 21, 24, 25], &[26, 27]];
 
 /// Two refusals that are tested in the other order, or none.
 static FIRST: AtomicU32 = AtomicU32::new(0);
@@ -230,7 +234,7 @@ pub fn overtaken<T>(first: u32, work: impl FnOnce() -> Result<T, Refusal>) -> Op
     if FIRST.load(Relaxed) != first {
         return None;
     }
-    let place = |refusal: u32| ORDER.iter().position(|&other| other == refusal);
+    let place = |refusal: u32| ORDERS.iter().copied().flatten().position(|&other| other == refusal);
     let later = place(first)..=place(SECOND.load(Relaxed));
     work().err().filter(|other| later.contains(&place(other.number())) && other.number() != first)
 }

@@ -1,19 +1,23 @@
 //! Counts which wrong programs the conformance kit catches, its sheets and its vectors, which only
 //! the generator of sheets does, and which neither: `mutants [OPTION NUMBER]...`; the README has the options.
 
+mod draw;
 mod grid;
 mod hooks;
+mod laboratory;
 mod mutants;
+mod permitted;
 mod trial;
 /// The reference's modules, with points.
 #[allow(clippy::all, unused, unused_parens, unreachable_code)]
 mod turned {
     include!(concat!(env!("OUT_DIR"), "/turned.rs"));
 }
-mod vectors;
 mod wrong;
 
 use std::process::ExitCode;
+
+use reference::conformance::vectors;
 
 use mutants::Mutant;
 use trial::Trial;
@@ -51,17 +55,8 @@ fn main() -> ExitCode {
         return ExitCode::from(2);
     };
     std::panic::set_hook(Box::new(|_| {}));
-    let mut kit: Vec<Trial> = reference::conformance::cases()
-        .into_iter()
-        .take(options.kit)
-        .map(|case| Trial::new(case.name.to_string(), case.sheet))
-        .collect();
-    let sheets = kit.len();
-    kit.extend(reference::conformance::vectors::all().into_iter().map(Trial::of_vector));
-    let drawn = (0..options.sheets)
-        .map(|seed| Trial::new(format!("seed {seed}"), reference::sheets::sheet(seed)));
-    let by_lot = vectors::drawn(options.sheets).map(Trial::of_vector);
-    let generated: Vec<Trial> = drawn.chain(grid::every_density()).chain(by_lot).collect();
+    let Kit { trials: kit, sheets, vectors } = kit(options.kit);
+    let generated = generated(options.sheets);
     let met = |mutant: &Mutant| kit.iter().chain(&generated).any(|trial| trial.meets(*mutant));
     let (list, unmet): (Vec<Mutant>, Vec<Mutant>) =
         mutants::all().into_iter().step_by(options.every).partition(met);
@@ -75,10 +70,7 @@ fn main() -> ExitCode {
         unmet.iter().for_each(|mutant| println!("unmet: {mutant}"));
     }
     let caught = list.len() - left.len();
-    println!(
-        "caught by the {sheets} sheets and {} vectors of the kit: {caught}",
-        kit.len() - sheets
-    );
+    println!("caught by the {sheets} sheets and {vectors} vectors of the kit: {caught}");
     if options.generator > 0 {
         let drawn = &generated[..options.sheets as usize];
         let (missed, _) = measure(&list, drawn);
@@ -115,6 +107,38 @@ fn main() -> ExitCode {
     } else {
         ExitCode::FAILURE
     }
+}
+
+/// The conformance kit: its trials, and how many sheets and vectors they are.
+struct Kit {
+    trials: Vec<Trial>,
+    sheets: usize,
+    vectors: usize,
+}
+
+/// The first so many sheets of the kit, and its vectors.
+fn kit(first: usize) -> Kit {
+    let cases = reference::conformance::cases();
+    let cars = vectors::all::<vectors::permitted::Vector>();
+    let reports = vectors::all::<vectors::laboratory::Vector>();
+    let (sheets, vectors) = (cases.len().min(first), cars.len() + reports.len());
+    let cases = cases.into_iter().take(first);
+    let trials = cases
+        .map(|case| Trial::new(case.name.to_string(), case.sheet))
+        .chain(cars.into_iter().map(Trial::of_vector))
+        .chain(laboratory::of_vectors(&reports).into_iter().map(Trial::of_reports))
+        .collect();
+    Kit { trials, sheets, vectors }
+}
+
+/// So many generated sheets first, then sheets of every density, and vectors by lot.
+fn generated(sheets: u64) -> Vec<Trial> {
+    (0..sheets)
+        .map(|seed| Trial::new(format!("seed {seed}"), reference::sheets::sheet(seed)))
+        .chain(grid::every_density())
+        .chain(permitted::drawn(sheets).map(Trial::of_vector))
+        .chain(laboratory::drawn(sheets / 10).map(Trial::of_reports))
+        .collect()
 }
 
 /// Names the seeds of sheets of figures that catch most of what the kit leaves, the best first.

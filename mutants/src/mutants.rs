@@ -1,5 +1,5 @@
 //! The list of wrong programs: every wrong way at every point, also held to one line, field, table
-//! or car, and every two refusals of a car tested in the other order.
+//! or car, and every two refusals of a car, or of a report, tested in the other order.
 
 use std::fmt;
 use std::sync::OnceLock;
@@ -57,7 +57,7 @@ fn ranges(key: usize) -> Vec<(u32, u32)> {
         hooks::STICK => each(1..=2),
         hooks::GIVEN => vec![(2, 2), (4, 4)],
         hooks::POWER => each(2..=6),
-        hooks::AT => vec![(15, 15), (20, 20)],
+        hooks::AT => [15, 20, hooks::LABORATORY].map(|at| (at, at)).to_vec(),
         _ => each(1..=60),
     }
 }
@@ -100,8 +100,10 @@ pub fn all() -> Vec<Mutant> {
             places.map(move |place| Mutant::Point(point, choice + 1, place))
         })
     });
-    let orders = hooks::ORDER.iter().enumerate().flat_map(|(place, &first)| {
-        hooks::ORDER[place + 1..].iter().map(move |&second| Mutant::Order(first, second))
+    let orders = hooks::ORDERS.iter().flat_map(|order| {
+        order.iter().enumerate().flat_map(|(place, &first)| {
+            order[place + 1..].iter().map(move |&second| Mutant::Order(first, second))
+        })
     });
     of_points.chain(orders).collect()
 }
@@ -141,6 +143,7 @@ impl fmt::Display for Context {
             hooks::ALWAYS => write!(to, "{}", names[0]),
             hooks::LINE | hooks::ANSWER => write!(to, "line {}", low as u8 as char),
             hooks::FIELD => write!(to, "field {} of {}", low % 100, (low / 100) as u8 as char),
+            hooks::AT if low == hooks::LABORATORY => write!(to, "at the laboratory"),
             _ if low == high => write!(to, "{} {low}", names[key]),
             _ => write!(to, "{} {low} to {high}", names[key]),
         }

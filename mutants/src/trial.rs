@@ -1,17 +1,19 @@
-//! Trying a wrong program on sheets, and on cars with given errors.
+//! Trying a wrong program on sheets, on cars with given errors and on laboratories' reports.
 
 use std::panic::{self, AssertUnwindSafe};
 
-use reference::conformance::vectors::Vector;
+use reference::conformance::vectors::permitted::Vector;
 
 use crate::hooks;
+use crate::laboratory::Reports;
 use crate::mutants::{contexts_of, Mutant};
-use crate::{turned, vectors, POINTS};
+use crate::{permitted, turned, POINTS};
 
 /// What a program is asked.
 enum Question {
     Sheet(Vec<u8>),
     PermittedError(Vector),
+    Density(Reports),
 }
 
 impl Question {
@@ -19,7 +21,8 @@ impl Question {
     fn right(&self) -> Vec<u8> {
         match self {
             Self::Sheet(sheet) => reference::listing::of(sheet),
-            Self::PermittedError(vector) => vectors::right(vector),
+            Self::PermittedError(vector) => permitted::right(vector),
+            Self::Density(reports) => reports.right(),
         }
     }
 
@@ -27,7 +30,8 @@ impl Question {
     fn turned(&self) -> Vec<u8> {
         match self {
             Self::Sheet(sheet) => turned::listing::of(sheet),
-            Self::PermittedError(vector) => vectors::turned(vector),
+            Self::PermittedError(vector) => permitted::turned(vector),
+            Self::Density(reports) => reports.turned(),
         }
     }
 }
@@ -49,6 +53,12 @@ impl Trial {
     /// A car with given errors, and its permitted error.
     pub fn of_vector(vector: Vector) -> Self {
         Self::of(vector.name.clone(), Question::PermittedError(vector))
+    }
+
+    /// Reports at one temperature, and their densities at 15 °C.
+    pub fn of_reports(reports: Reports) -> Self {
+        let name = format!("reports at {}", reports.temperature);
+        Self::of(name, Question::Density(reports))
     }
 
     /// # Panics

@@ -315,6 +315,27 @@ pub fn part(gross: u64, share: u32) -> u64 {
     round(u128::from(gross) * u128::from(share), 10_000)
 }
 
+/// What a density at 15 °C comes to at a laboratory, got in another way.
+pub fn comes_to(density: u32, tenths: u32, way: usize) -> u32 {
+    let wide = u128::from(density);
+    let by = |of: u32| round(wide * contraction_by_rule(of, tenths), ONE) as u32;
+    let (r, d) = (f64::from(density), f64::from(tenths));
+    let exponent = (18_696_960_000_000.0 + 4_861_800_000.0 * r) / (r * r) * d / 1e10;
+    match way {
+        0 => round(wide * ONE, contraction_by_rule(density, tenths)) as u32,
+        1 => (wide * contraction_by_rule(density, tenths) / ONE) as u32,
+        2 => by(density - 1),
+        3 => by(density + 1),
+        4 => by(9_500),
+        5 => (r * (1.0 - exponent)).round() as u32,
+        6 => (r * (-exponent * (1.0 + 0.8 * exponent)).exp()).round() as u32,
+        _ => {
+            let exponent = exponent as f32;
+            (density as f32 * (-exponent * (1.0 + 0.8 * exponent)).exp()).round() as u32
+        }
+    }
+}
+
 /// E rounded to so many digits after the point.
 pub fn to_digits(contraction: u64, digits: u32) -> u64 {
     let unit = 10_u64.pow(10 - digits);

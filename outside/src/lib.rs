@@ -100,6 +100,7 @@ mod exported {
         pub fn rack_factor_of(density: u32, temperature: u32, factor: *mut u64) -> u32;
         pub fn rack_density_at_20(density: u32, density_20: *mut u32) -> u32;
         pub fn rack_density_at_20_of_grade(grade: u32, density: u32, density_20: *mut u32) -> u32;
+        pub fn rack_density_at_15(reported: u32, temperature: u32, density: *mut u32) -> u32;
         pub fn rack_oil_share(grade: u32, water: u32, impurities: u32, share: *mut u32) -> u32;
         pub fn rack_oil_share_any_grade(water: u32, impurities: u32, share: *mut u32) -> u32;
         pub fn rack_work_out(
@@ -264,6 +265,10 @@ pub fn density_at_20(density: u32, density_20: &mut u32) -> u32 {
 
 pub fn density_at_20_of_grade(grade: u32, density: u32, density_20: &mut u32) -> u32 {
     unsafe { exported::rack_density_at_20_of_grade(grade, density, density_20) }
+}
+
+pub fn density_at_15(reported: u32, temperature: u32, density: &mut u32) -> u32 {
+    unsafe { exported::rack_density_at_15(reported, temperature, density) }
 }
 
 pub fn oil_share(grade: u32, water: u32, impurities: u32, share: &mut u32) -> u32 {

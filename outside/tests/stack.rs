@@ -60,7 +60,7 @@ fn stack_of(mut operation: &mut dyn FnMut() -> u32) -> usize {
 fn no_operation_takes_more_than_the_header_says() {
     let full = sheets::full_sheet(0);
     let mut answer = [0; ANSWER_BYTES];
-    let mut operations: [(&str, &mut dyn FnMut() -> u32); 17] = [
+    let mut operations: [(&str, &mut dyn FnMut() -> u32); 18] = [
         ("answer_sheet", &mut || outside::answer_sheet(&full, &mut answer).1),
         ("read_line", &mut || outside::read_line(b"E        1\n", &mut 0, &mut [0; FIELDS])),
         ("write_line", &mut || outside::write_line(b'C', &[1; FIELDS], &mut [0; 128], &mut 0)),
@@ -72,6 +72,7 @@ fn no_operation_takes_more_than_the_header_says() {
         ("factor_of", &mut || outside::factor_of(9_500, 600, &mut 0)),
         ("density_at_20", &mut || outside::density_at_20(9_500, &mut 0)),
         ("density_at_20_of_grade", &mut || outside::density_at_20_of_grade(3, 9_500, &mut 0)),
+        ("density_at_15", &mut || outside::density_at_15(9_300, 500, &mut 0)),
         ("oil_share", &mut || outside::oil_share(3, 50, 20, &mut 0)),
         ("oil_share_any_grade", &mut || outside::oil_share_any_grade(50, 20, &mut 0)),
         ("work_out", &mut || outside::work_out(TABLES, &CAR, &mut [0; FIGURES])),

@@ -1,16 +1,17 @@
-//! The library's permitted error: every line of the file of vectors.
+//! The library's permitted error and laboratory's density: every line of the files of vectors.
 
 use outside::slices::Slices;
 use outside::{ERRORS, FIELDS, PERMITTED};
-use reference::conformance::vectors::{self, Vector};
+use reference::conformance::vectors::{all, laboratory, permitted, read};
 
-const VECTORS: &str = include_str!("../../conformance/permitted-error.vectors");
+const PERMITTED_ERROR: &str = include_str!("../../conformance/permitted-error.vectors");
+const LABORATORY_DENSITY: &str = include_str!("../../conformance/laboratory-density.vectors");
 
 /// What a place holds before it is lent: no figure.
 const LENT: u32 = 0xa5a5_a5a5;
 
 /// The number handed back and what the lent places hold, with one more behind them.
-fn ask(vector: &Vector) -> (u32, [u32; PERMITTED + 1]) {
+fn permitted_error(vector: &permitted::Vector) -> (u32, [u32; PERMITTED + 1]) {
     let tables = Slices::new(&vector.tables);
     let (car, errors) = (<[u32; FIELDS]>::from(vector.car), <[u32; ERRORS]>::from(vector.errors));
     let mut figures = [LENT; PERMITTED + 1];
@@ -19,7 +20,7 @@ fn ask(vector: &Vector) -> (u32, [u32; PERMITTED + 1]) {
 }
 
 /// The same from a line's answer: a refusal, or terms, figures and limit between bars.
-fn expected(answer: &str) -> (u32, [u32; PERMITTED + 1]) {
+fn expected_error(answer: &str) -> (u32, [u32; PERMITTED + 1]) {
     let mut figures = [LENT; PERMITTED + 1];
     let Some((_, seen)) = answer.split_once(" | ") else {
         return (answer.parse().expect("a refusal"), figures);
@@ -31,11 +32,36 @@ fn expected(answer: &str) -> (u32, [u32; PERMITTED + 1]) {
     (0, figures)
 }
 
+/// The number handed back and what the lent place holds.
+fn density_at_15(vector: &laboratory::Vector) -> (u32, u32) {
+    let mut density = LENT;
+    let number = outside::density_at_15(vector.reported, vector.temperature, &mut density);
+    (number, density)
+}
+
+/// The same from a line's answer: what stands on the way, then a density at 15 °C or a refusal.
+fn expected_density(answer: &str) -> (u32, u32) {
+    let (_, seen) = answer.split_once(" | ").expect("an answer");
+    match seen.parse().expect("a number") {
+        density @ 9_000.. => (0, density),
+        refusal => (refusal, LENT),
+    }
+}
+
 #[test]
-fn every_line_of_the_vectors() {
-    let vectors = vectors::read(VECTORS);
-    assert_eq!(vectors.len(), vectors::all().len());
+fn every_line_of_the_permitted_error() {
+    let vectors = read::<permitted::Vector>(PERMITTED_ERROR);
+    assert_eq!(vectors.len(), all::<permitted::Vector>().len());
     for (vector, answer) in vectors {
-        assert_eq!(ask(&vector), expected(answer), "{}", vector.name);
+        assert_eq!(permitted_error(&vector), expected_error(answer), "{}", vector.name);
+    }
+}
+
+#[test]
+fn every_line_of_the_laboratory_s_density() {
+    let vectors = read::<laboratory::Vector>(LABORATORY_DENSITY);
+    assert_eq!(vectors.len(), all::<laboratory::Vector>().len());
+    for (vector, answer) in vectors {
+        assert_eq!(density_at_15(&vector), expected_density(answer), "{}", vector.name);
     }
 }

@@ -7,6 +7,7 @@
 pub mod car;
 pub mod conformance;
 pub mod field;
+pub mod laboratory;
 pub mod level;
 pub mod line;
 pub mod listing;

@@ -54,6 +54,10 @@ pub enum Refusal {
     GivenError = 24,
     /// V0 is 0, or the level term of the permitted error is too large.
     LevelTerm = 25,
+    /// The laboratory's temperature is out of its range.
+    LaboratoryTemperature = 26,
+    /// No density at 15 °C comes near enough to the laboratory's density.
+    LaboratoryDensity = 27,
 }
 
 impl Refusal {

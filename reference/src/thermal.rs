@@ -78,7 +78,12 @@ pub fn contraction(density: Density15, tenths: u32) -> u64 {
     exponential(exponent(coefficient(density), tenths))
 }
 
+/// The density at so many tenths of a degree above 15 °C, in 0.1 kg/m³.
+pub fn density_at(density: Density15, tenths: u32) -> u32 {
+    nearest(u64::from(density.0) * contraction(density, tenths), ONE) as u32
+}
+
 /// Step 9: the density at 20 °C.
 pub fn density_at_20(density: Density15) -> Density20 {
-    Density20(nearest(u64::from(density.0) * contraction(density, 50), ONE) as u32)
+    Density20(density_at(density, 50))
 }

@@ -6,6 +6,7 @@ use std::path::{Path, PathBuf};
 use std::process::{Command, Stdio};
 
 use reference::conformance;
+use reference::conformance::vectors::{self, laboratory, permitted};
 use reference::{listing, sheets};
 
 fn rack(sheet: &[u8]) -> Vec<u8> {
@@ -67,10 +68,11 @@ fn make_conformance_writes_sheets_and_listings() {
     let made = Command::new(env!("CARGO_BIN_EXE_make_conformance")).arg(&folder).status().unwrap();
     assert!(made.success());
     let cases = conformance::cases();
-    // The sheets and listings, the index, the figures on the way and the vectors.
-    assert_eq!(fs::read_dir(&folder).unwrap().count(), 2 * cases.len() + 3);
-    let vectors = fs::read_to_string(folder.join("permitted-error.vectors")).unwrap();
-    assert_eq!(vectors, conformance::vectors::file());
+    // The sheets and listings, the index, the figures on the way and two files of vectors.
+    assert_eq!(fs::read_dir(&folder).unwrap().count(), 2 * cases.len() + 4);
+    let written = |name: &str| fs::read_to_string(folder.join(name)).unwrap();
+    assert_eq!(written("permitted-error.vectors"), vectors::file::<permitted::Vector>());
+    assert_eq!(written("laboratory-density.vectors"), vectors::file::<laboratory::Vector>());
     for case in cases {
         assert_eq!(fs::read(folder.join(format!("{}.sheet", case.name))).unwrap(), case.sheet);
         assert_eq!(fs::read(folder.join(format!("{}.listing", case.name))).unwrap(), case.listing);

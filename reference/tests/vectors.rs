@@ -1,44 +1,54 @@
-//! The file of vectors: every answer is the one written down for it, and the vectors try every
+//! The files of vectors: every answer is the one written down for it, and the vectors try every
 //! refusal and every bound.
 
 use std::collections::HashSet;
+use std::fmt::Debug;
 
-use reference::conformance::vectors::{all, answer, expected, file, read};
+use reference::conformance::vectors::{all, expected, file, laboratory, permitted, read, Written};
 
-#[test]
-fn answers() {
-    for vector in all() {
-        let answer = answer(&vector.work_out());
-        assert_eq!(Some(answer.as_str()), expected(&vector.name), "{}", vector.name);
+/// What holds of every file: the answers, the names, and that it is read as it was written.
+fn hold<V: Written + Debug + PartialEq>(least: usize) {
+    let vectors = all::<V>();
+    for vector in &vectors {
+        let answer = vector.answer();
+        assert_eq!(Some(answer.as_str()), expected::<V>(vector.name()), "{}", vector.name());
     }
-}
-
-#[test]
-fn the_file_is_read_as_it_was_written() {
-    let file = file();
-    let read = read(&file);
-    assert_eq!(read.len(), all().len());
-    for ((vector, text), written) in read.into_iter().zip(all()) {
-        assert_eq!(vector, written);
-        assert_eq!(text, answer(&written.work_out()));
-    }
-}
-
-#[test]
-fn names_differ() {
-    let vectors = all();
-    let names: HashSet<&str> = vectors.iter().map(|vector| vector.name.as_str()).collect();
+    let names: HashSet<&str> = vectors.iter().map(V::name).collect();
     assert_eq!(names.len(), vectors.len());
-    assert!(vectors.len() >= 150);
+    assert_eq!(V::ANSWERS.lines().count(), vectors.len());
+    assert!(vectors.len() >= least);
+    let file = file::<V>();
+    let written: Vec<String> = vectors.iter().map(V::answer).collect();
+    let written: Vec<(V, &str)> =
+        vectors.into_iter().zip(written.iter().map(String::as_str)).collect();
+    assert_eq!(read::<V>(&file), written);
+}
+
+/// The refusal that a name tells, or none.
+fn named_refusal(name: &str) -> Option<u32> {
+    let named = name.strip_prefix("refusal-").or(name.strip_prefix("order-"));
+    named.map(|rest| rest[..2].parse().unwrap())
 }
 
 #[test]
-fn names_tell_the_outcome() {
-    for vector in all() {
+fn files() {
+    hold::<permitted::Vector>(150);
+    hold::<laboratory::Vector>(200);
+}
+
+#[test]
+fn names_tell_the_outcome_of_a_report() {
+    for vector in all::<laboratory::Vector>() {
         let number = vector.work_out().err().map(|refusal| refusal.number());
-        let named = vector.name.strip_prefix("refusal-").or(vector.name.strip_prefix("order-"));
-        let named: Option<u32> = named.map(|rest| rest[..2].parse().unwrap());
-        assert_eq!(number, named, "{}", vector.name);
+        assert_eq!(number, named_refusal(&vector.name), "{}", vector.name);
+    }
+}
+
+#[test]
+fn names_tell_the_outcome_of_a_car() {
+    for vector in all::<permitted::Vector>() {
+        let number = vector.work_out().err().map(|refusal| refusal.number());
+        assert_eq!(number, named_refusal(&vector.name), "{}", vector.name);
         let within = vector.work_out().is_ok_and(|permitted| permitted.within);
         let named = |start: &str| vector.name.starts_with(start);
         assert!(!named("within-") || within, "{}", vector.name);
@@ -48,10 +58,11 @@ fn names_tell_the_outcome() {
 
 #[test]
 fn every_refusal_of_a_car_stands_before_24_and_before_25() {
+    let vectors = all::<permitted::Vector>();
     for second in [24, 25] {
         for first in [7, 8, 10].into_iter().chain(12..=21).chain([23]) {
             let name = format!("order-{first:02}-before-{second}-");
-            assert!(all().iter().any(|vector| vector.name.starts_with(&name)), "{name}");
+            assert!(vectors.iter().any(|vector| vector.name.starts_with(&name)), "{name}");
         }
     }
 }

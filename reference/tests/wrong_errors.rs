@@ -4,7 +4,7 @@
 mod roundings;
 
 use reference::car::{Car, Figures};
-use reference::conformance::vectors::{all, Vector};
+use reference::conformance::vectors::{all, permitted::Vector};
 use reference::operations::{self, HandedIn};
 
 use roundings::{rounded, Rounding};
@@ -374,7 +374,7 @@ const TURNS: &[(&str, &[Turn])] = &[
 
 #[test]
 fn every_wrong_turn_shows_in_its_vector() {
-    let vectors = all();
+    let vectors = all::<Vector>();
     for (name, turns) in TURNS {
         let vector = vectors.iter().find(|vector| vector.name == *name).expect(name);
         let answer = Turn::None.answer(vector);
@@ -386,7 +386,7 @@ fn every_wrong_turn_shows_in_its_vector() {
 
 #[test]
 fn without_a_wrong_turn_the_answers_are_the_same() {
-    for vector in all() {
+    for vector in all::<Vector>() {
         let answer = vector.work_out().map_err(|refusal| refusal.number());
         let seen = answer.map(|permitted| (permitted.figures, permitted.limit, permitted.within));
         assert_eq!(Turn::None.answer(&vector), seen, "{}", vector.name);
@@ -395,7 +395,7 @@ fn without_a_wrong_turn_the_answers_are_the_same() {
 
 #[test]
 fn every_parting_and_rounding_vector_has_a_wrong_turn() {
-    for Vector { name, .. } in all() {
+    for Vector { name, .. } in all::<Vector>() {
         if name.starts_with("parting-") || name.starts_with("rounding-") {
             assert!(TURNS.iter().any(|(of, _)| *of == name), "{name} shows no wrong turn");
         }

@@ -1,4 +1,5 @@
-// Figures of document 01 that are computed and not proved one by one, annex Д of 002 where its roundings allow, and those of request (c).
+// Figures of document 01 that are computed and not proved one by one, annex Д of 002 where its roundings allow, and those of requests (c)
+// and (d).
 // What it must write, the file stdout, comes from the separately written code in reference/.
 use libc::STDOUT_FILENO;
 use tankcar::Car;
@@ -12,6 +13,7 @@ use tankcar::LEAST_BUFFER;
 use tankcar::PLACES;
 
 mod permitted; // permitted.rt: the permitted error beside the mass
+mod reports; // reports.rt: the density at 15 °C of a laboratory's report
 
 pub(crate) fn say(text: &[u8]) {
     io::write_all(STDOUT_FILENO, text);
@@ -129,4 +131,5 @@ fn main() {
     show_sheet(b"");
     show_sheet(b"T        1        2\nR        0        0\nR        1        1\nE        0\n");
     permitted::show_all();
+    reports::show_all();
 }

@@ -36,6 +36,11 @@ pub use thermal::density_at_20;
 pub use thermal::expansion_of;
 pub use thermal::factor_of;
 
+// A laboratory's density brought to 15 °C.
+pub use laboratory::DensityAt15;
+pub use laboratory::Report;
+pub use reducing::density_at_15;
+
 // A car and the running train: `Train::empty`, `Train::enter`.
 pub use car::Car;
 pub use car::CarAnswer;

@@ -1,11 +1,12 @@
 //! Writes the conformance sheets, their listings, their index and figures on the way, and the vectors
-//! of the permitted error: `make_conformance FOLDER`.
+//! of the permitted error and of the laboratory's density: `make_conformance FOLDER`.
 
 use std::fs;
 use std::path::Path;
 use std::process::ExitCode;
 
-use reference::conformance::{self, vectors};
+use reference::conformance;
+use reference::conformance::vectors::{self, laboratory, permitted, Written};
 use reference::listing;
 
 fn main() -> ExitCode {
@@ -28,11 +29,16 @@ fn write_cases(folder: &Path) -> std::io::Result<()> {
     let cases = conformance::cases();
     fs::write(folder.join("INDEX.md"), conformance::index::of(&cases))?;
     fs::write(folder.join("STEPS.md"), conformance::steps::of(&cases))?;
-    fs::write(folder.join(vectors::FILE), vectors::file())?;
+    write_vectors::<permitted::Vector>(folder)?;
+    write_vectors::<laboratory::Vector>(folder)?;
     for case in cases {
         let listing = listing::of(&case.sheet);
         fs::write(folder.join(format!("{}.sheet", case.name)), &case.sheet)?;
         fs::write(folder.join(format!("{}.listing", case.name)), listing)?;
     }
     Ok(())
+}
+
+fn write_vectors<V: Written>(folder: &Path) -> std::io::Result<()> {
+    fs::write(folder.join(V::FILE), vectors::file::<V>())
 }

@@ -1,5 +1,5 @@
-//! Small sheets that each try one point of the rules, with the listing each must give; and cars with
-//! given errors, in [`vectors`].
+//! Small sheets that each try one point of the rules, with the listing each must give; and what no
+//! sheet asks, in [`vectors`].
 //!
 //! The listings stand here as constants, worked out by a separate calculation; the tests compare
 //! them with what this package answers.

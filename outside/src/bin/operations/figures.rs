@@ -12,7 +12,7 @@ pub const ENDS: [u32; 8] =
     [0, 1, 99_999_998, 99_999_999, 100_000_000, 1 << 31, u32::MAX - 1, u32::MAX];
 
 /// The ends, then a range.
-fn ends_and(range: std::ops::RangeInclusive<u32>) -> impl Iterator<Item = u32> + Clone {
+pub fn ends_and(range: std::ops::RangeInclusive<u32>) -> impl Iterator<Item = u32> + Clone {
     ENDS.into_iter().chain(range)
 }
 

@@ -4,6 +4,7 @@
 
 mod cars;
 mod figures;
+mod laboratory;
 mod lines;
 mod permitted;
 mod tables;
@@ -38,6 +39,7 @@ fn main() -> ExitCode {
         figures::factor_of().print(),
         figures::density_at_20().print(),
         figures::density_at_20_of_grade().print(),
+        laboratory::density_at_15(times).print(),
         figures::oil_share().print(),
         figures::oil_share_any_grade().print(),
         cars::work_out(times).print(),

@@ -1,109 +1,93 @@
-//! Cars with given errors that each try one point of the permitted error, with the answer that each
-//! must give.
+//! Files of vectors: questions that no sheet asks, each with a name that says what it tries and the
+//! answer that it must give.
 //!
-//! The answers stand in `answers.txt`, worked out by a separate calculation; the tests compare them
-//! with what this package answers.
+//! The answers stand in an `answers.txt` for each file, worked out by a separate calculation; the tests
+//! compare them with what this package answers.
 
-mod limits;
-mod order;
-mod paper;
-mod ranges;
-mod terms;
-mod text;
+pub mod laboratory;
+pub mod permitted;
 
-pub use text::{answer, file, read};
+/// A vector as it stands on its line: name, question and answer, in parts between bars.
+pub trait Written: Sized + 'static {
+    /// The name of the file.
+    const FILE: &'static str;
+    /// What stands before the vectors: what their parts are.
+    const HEAD: &'static str;
+    /// The name and the answer by the separate calculation, one line for each vector.
+    const ANSWERS: &'static str;
 
-use super::rack;
-use crate::car::Car;
-use crate::operations::{self, HandedIn};
-use crate::permitted::{Errors, PermittedError};
-use crate::refusal::Refusal;
-use crate::table::Row;
+    /// All vectors.
+    fn groups() -> Vec<Group<Self>>;
 
-/// The name of the file.
-pub const FILE: &str = "permitted-error.vectors";
+    fn name(&self) -> &str;
 
-/// Tables, a car and its given errors, with a name that says what they try.
-#[derive(Clone, Debug, PartialEq)]
-pub struct Vector {
-    pub name: String,
-    pub tables: Vec<HandedIn>,
-    pub car: Car,
-    pub errors: Errors,
-}
+    /// The parts between name and answer.
+    fn question(&self) -> String;
 
-impl Vector {
-    /// What this package answers.
-    pub fn work_out(&self) -> Result<PermittedError, Refusal> {
-        operations::permitted_error(&self.tables, &self.car, &self.errors)
-    }
+    /// The parts behind them, as this package answers.
+    fn answer(&self) -> String;
+
+    /// Reads name and question, part by part.
+    fn read<'a>(part: impl FnMut() -> &'a str) -> Self;
 }
 
 /// Vectors that try the same, and what that is.
-struct Group {
+pub struct Group<V> {
     about: &'static str,
-    vectors: Vec<Vector>,
+    vectors: Vec<V>,
 }
 
-fn groups() -> Vec<Group> {
-    [paper::groups(), terms::groups(), limits::groups(), ranges::groups(), order::groups()]
-        .into_iter()
-        .flatten()
-        .collect()
-}
-
-/// All vectors.
-pub fn all() -> Vec<Vector> {
-    groups().into_iter().flat_map(|group| group.vectors).collect()
+/// All vectors of a file.
+pub fn all<V: Written>() -> Vec<V> {
+    V::groups().into_iter().flat_map(|group| group.vectors).collect()
 }
 
 /// The answer to a vector by the separate calculation, as it stands on its line.
-pub fn expected(name: &str) -> Option<&'static str> {
-    let answers = include_str!("answers.txt").lines().filter_map(|line| line.split_once(" | "));
-    answers.into_iter().find(|(of, _)| *of == name).map(|(_, answer)| answer)
+pub fn expected<V: Written>(name: &str) -> Option<&'static str> {
+    let mut answers = V::ANSWERS.lines().filter_map(|line| line.split_once(" | "));
+    answers.find(|(of, _)| *of == name).map(|(_, answer)| answer)
 }
 
-/// The errors of the paper's vectors.
-const ERRORS: Errors = Errors {
-    capacity: 5_000,
-    density: 1_600,
-    processing: 500,
-    density_temperature: 5,
-    oil_temperature: 5,
-    level: 30,
-};
-
-/// No errors.
-const NONE: Errors = Errors {
-    capacity: 0,
-    density: 0,
-    processing: 0,
-    density_temperature: 0,
-    oil_temperature: 0,
-    level: 0,
-};
-
-/// The rack card's table and first car.
-fn rack(name: &str, car: Car, errors: Errors) -> Vector {
-    on(name, &[(0, 0), (1_000, 20_000), (2_000, 50_000), (3_000, 70_000)], car, errors)
+/// The whole file, with the answers of this package.
+pub fn file<V: Written>() -> String {
+    let mut text = String::from(V::HEAD);
+    for group in V::groups() {
+        text.push_str(&format!("\n# {}\n", group.about));
+        for vector in group.vectors {
+            let (name, question, answer) = (vector.name(), vector.question(), vector.answer());
+            text.push_str(&format!("{name} | {question} | {answer}\n"));
+        }
+    }
+    text
 }
 
-/// A car on one table of type 1.
-fn on(name: &str, rows: &[(u32, u32)], car: Car, errors: Errors) -> Vector {
-    Vector { name: name.to_string(), tables: vec![table(1, rows)], car, errors }
+/// The vectors of a file, each with its answer.
+///
+/// # Panics
+///
+/// If a line is not a vector's.
+pub fn read<V: Written>(file: &str) -> Vec<(V, &str)> {
+    let cases = file.lines().filter(|line| !line.is_empty() && !line.starts_with('#'));
+    cases.map(read_line).collect()
 }
 
-fn table(car_type: u32, rows: &[(u32, u32)]) -> HandedIn {
-    let rows: Vec<Row> = rows.iter().map(|&(level, capacity)| Row { level, capacity }).collect();
-    HandedIn { car_type, announced: rows.len() as u32, rows }
+fn read_line<V: Written>(line: &str) -> (V, &str) {
+    let mut rest = line;
+    let vector = V::read(|| {
+        let (part, behind) = rest.split_once(" | ").unwrap_or_else(|| panic!("no vector: {line}"));
+        rest = behind;
+        part
+    });
+    (vector, rest)
 }
 
-/// The rack card's first car at a level, above a water level, both in mm.
-const fn above(level: u32, water_level: u32) -> Car {
-    Car { readings: [level, level, 0, 0], water_level, ..rack::CAR }
+/// Numbers as a part of a line.
+fn words<T: ToString, const N: usize>(numbers: [T; N]) -> String {
+    numbers.map(|number| number.to_string()).join(" ")
 }
 
-/// The rack card's first car at a level in mm, without water.
-const fn at(level: u32) -> Car {
-    above(level, 0)
+/// The numbers of a part.
+fn numbers<const N: usize>(text: &str) -> [u32; N] {
+    let numbers: Vec<u32> = text.split(' ').map(|word| word.parse().expect("a number")).collect();
+    numbers.try_into().expect("as many numbers as there are fields")
 }

@@ -1,10 +1,10 @@
-//! The file of vectors: one line for each, with its answer.
+//! The line of a vector: tables, car and errors, terms, figures and limit.
 
-use super::{groups, Vector};
+use super::super::{numbers, words, Group, Written};
+use super::Vector;
 use crate::car::{Car, Figures, FIELDS};
 use crate::operations::HandedIn;
 use crate::permitted::{Errors, PermittedError, Terms, ERRORS};
-use crate::refusal::Refusal;
 use crate::table::Row;
 
 /// What stands before the vectors.
@@ -27,43 +27,43 @@ const HEAD: &str = "\
 # Lines that begin with # and empty lines are no cases.
 ";
 
-/// The whole file, with the answers of this package.
-pub fn file() -> String {
-    let mut text = String::from(HEAD);
-    for group in groups() {
-        text.push_str(&format!("\n# {}\n", group.about));
-        for vector in group.vectors {
-            text.push_str(&format!("{} | {}\n", question(&vector), answer(&vector.work_out())));
+impl Written for Vector {
+    const FILE: &'static str = "permitted-error.vectors";
+    const HEAD: &'static str = HEAD;
+    const ANSWERS: &'static str = include_str!("answers.txt");
+
+    fn groups() -> Vec<Group<Self>> {
+        super::groups()
+    }
+
+    fn name(&self) -> &str {
+        &self.name
+    }
+
+    /// Tables, car and errors.
+    fn question(&self) -> String {
+        let tables: Vec<String> = self.tables.iter().map(table_text).collect();
+        let car = words(<[u32; FIELDS]>::from(self.car));
+        let errors = words(<[u32; ERRORS]>::from(self.errors));
+        format!("{} | {car} | {errors}", tables.join("; "))
+    }
+
+    fn answer(&self) -> String {
+        match self.work_out() {
+            Err(refusal) => refusal.number().to_string(),
+            Ok(PermittedError { figures, terms, limit, within }) => {
+                let within = if within { "yes" } else { "no" };
+                format!("{} | {} | {limit} {within}", terms_text(&terms), figures_text(&figures))
+            }
         }
     }
-    text
-}
 
-/// The vectors of a file, each with its answer.
-///
-/// # Panics
-///
-/// If a line is not a vector's.
-pub fn read(file: &str) -> Vec<(Vector, &str)> {
-    let cases = file.lines().filter(|line| !line.is_empty() && !line.starts_with('#'));
-    cases.map(read_line).collect()
-}
-
-/// Name, tables, car and errors.
-fn question(vector: &Vector) -> String {
-    let tables: Vec<String> = vector.tables.iter().map(table_text).collect();
-    let car = words(<[u32; FIELDS]>::from(vector.car));
-    let errors = words(<[u32; ERRORS]>::from(vector.errors));
-    format!("{} | {} | {car} | {errors}", vector.name, tables.join("; "))
-}
-
-/// An answer as it stands on a line.
-pub fn answer(answer: &Result<PermittedError, Refusal>) -> String {
-    match answer {
-        Err(refusal) => refusal.number().to_string(),
-        Ok(PermittedError { figures, terms, limit, within }) => {
-            let within = if *within { "yes" } else { "no" };
-            format!("{} | {} | {limit} {within}", terms_text(terms), figures_text(figures))
+    fn read<'a>(mut part: impl FnMut() -> &'a str) -> Self {
+        Self {
+            name: part().to_string(),
+            tables: part().split("; ").filter(|text| !text.is_empty()).map(read_table).collect(),
+            car: Car::from(numbers::<FIELDS>(part())),
+            errors: Errors::from(numbers::<ERRORS>(part())),
         }
     }
 }
@@ -91,22 +91,6 @@ fn table_text(table: &HandedIn) -> String {
     format!("{}: {}", table.car_type, rows.join(", "))
 }
 
-fn words<T: ToString, const N: usize>(numbers: [T; N]) -> String {
-    numbers.map(|number| number.to_string()).join(" ")
-}
-
-fn read_line(line: &str) -> (Vector, &str) {
-    let mut parts = line.splitn(5, " | ");
-    let mut part = || parts.next().unwrap_or_else(|| panic!("no vector: {line}"));
-    let vector = Vector {
-        name: part().to_string(),
-        tables: part().split("; ").filter(|text| !text.is_empty()).map(read_table).collect(),
-        car: Car::from(numbers::<FIELDS>(part())),
-        errors: Errors::from(numbers::<ERRORS>(part())),
-    };
-    (vector, part())
-}
-
 fn read_table(text: &str) -> HandedIn {
     let (car_type, rows) = text.split_once(": ").expect("a type and rows");
     let rows: Vec<Row> = rows
@@ -118,9 +102,4 @@ fn read_table(text: &str) -> HandedIn {
         .collect();
     let [car_type] = numbers(car_type);
     HandedIn { car_type, announced: rows.len() as u32, rows }
-}
-
-fn numbers<const N: usize>(text: &str) -> [u32; N] {
-    let numbers: Vec<u32> = text.split(' ').map(|word| word.parse().expect("a number")).collect();
-    numbers.try_into().expect("as many numbers as there are fields")
 }

@@ -1,9 +1,10 @@
 //! The permitted error of a car as the reference and its rewritten copy answer it.
 
 use reference::car::FIELDS;
-use reference::conformance::vectors::{self, Vector};
+use reference::conformance::vectors::{self, permitted::Vector};
 use reference::permitted::ERRORS;
 
+use crate::draw::Draw;
 use crate::hooks;
 use crate::turned;
 
@@ -45,10 +46,10 @@ fn work_out(
 
 /// Vectors of the kit with level, temperature, density and errors by lot.
 pub fn drawn(count: u64) -> impl Iterator<Item = Vector> {
-    let kit = vectors::all();
+    let kit = vectors::all::<Vector>();
     (0..count).map(move |seed| {
         let mut vector = kit[seed as usize % kit.len()].clone();
-        let mut draw = Draw(seed);
+        let mut draw = Draw::new(seed);
         vector.name = format!("vector by lot {seed}");
         let level = draw.between(1, 3_600);
         vector.car.readings = [level, level, 0, 0];
@@ -63,18 +64,4 @@ pub fn drawn(count: u64) -> impl Iterator<Item = Vector> {
             .into();
         vector
     })
-}
-
-/// Numbers that look drawn by lot, the same for the same seed.
-struct Draw(u64);
-
-impl Draw {
-    /// A number from `low` to `high`, both included.
-    fn between(&mut self, low: u32, high: u32) -> u32 {
-        self.0 = self.0.wrapping_add(0x9e37_79b9_7f4a_7c15);
-        let mut bits = self.0;
-        bits = (bits ^ (bits >> 30)).wrapping_mul(0xbf58_476d_1ce4_e5b9);
-        bits = (bits ^ (bits >> 27)).wrapping_mul(0x94d0_49bb_1331_11eb);
-        low + ((bits >> 32) % u64::from(high - low + 1)) as u32
-    }
 }

@@ -16,7 +16,7 @@ const HIGHEST: [(&str, u32); ERRORS] = [
     ("level", 100),
 ];
 
-pub fn groups() -> Vec<Group> {
+pub fn groups() -> Vec<Group<Vector>> {
     vec![
         Group {
             about: "24: each error at its highest, one above, and far above",

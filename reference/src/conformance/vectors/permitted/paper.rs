@@ -5,7 +5,7 @@ use super::{at, on, rack, table, Group, Vector, ERRORS, NONE};
 use crate::car::Car;
 use crate::permitted::Errors;
 
-pub fn groups() -> Vec<Group> {
+pub fn groups() -> Vec<Group<Vector>> {
     vec![Group {
         about:
             "The rack card's car, on rows and between them, and the car of annex Д of GOST R 8.787",

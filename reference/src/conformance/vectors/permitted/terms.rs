@@ -6,7 +6,7 @@ use crate::conformance::rack::CAR;
 use crate::conformance::sources::CYLINDER;
 use crate::permitted::Errors;
 
-pub fn groups() -> Vec<Group> {
+pub fn groups() -> Vec<Group<Vector>> {
     vec![
         Group { about: "One error alone: its term is left, and no other", vectors: alone() },
         Group { about: "What stands in the level term", vectors: level_terms() },

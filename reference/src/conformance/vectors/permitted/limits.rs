@@ -13,7 +13,7 @@ const WIDE: [(u32, u32); 3] = [(0, 0), (1_000, 108_000), (2_000, 109_000)];
 const LIGHT: Car = at(1_597);
 const HEAVY: Car = at(1_598);
 
-pub fn groups() -> Vec<Group> {
+pub fn groups() -> Vec<Group<Vector>> {
     vec![
         Group { about: "The smallest n, at exact squares and beside them", vectors: squares() },
         Group { about: "Within: 0.65 % below 100,000 kg, 0.50 % from there on", vectors: within() },

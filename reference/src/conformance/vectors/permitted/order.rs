@@ -7,7 +7,7 @@ use crate::car::Car;
 use crate::conformance::rack::CAR;
 use crate::permitted::{Errors, ERRORS};
 
-pub fn groups() -> Vec<Group> {
+pub fn groups() -> Vec<Group<Vector>> {
     vec![
         Group { about: "Refusals of tables and car before 24", vectors: before_24() },
         Group { about: "Refusals of tables and car before 25", vectors: before_25() },

@@ -1,0 +1,13 @@
+pub mod Figures
+pub mod Expansion
+pub mod Exponent
+pub mod Series
+pub mod Rises
+pub mod Neighbours
+pub mod Halving
+pub mod Search
+pub mod Exists
+pub mod Answers
+pub mod Ends
+pub mod Told
+pub mod AgainstCard

@@ -1,0 +1,5 @@
+pub mod Nearest
+pub mod Answers
+pub mod Told
+pub mod Inner
+pub mod Card
