@@ -3,6 +3,7 @@ use Prim.Native.Nat.{ℕ, _≤_, _<_}
 use mathlib.Core.Path.{_≡_, refl, ap, sym, _∙_}
 use mathlib.Core.Bool.{Bool, true, false, cond, true≢false}
 use mathlib.Core.List.{List, [], _∷_, _++_}
+use mathlib.Core.Logic.{_⊎_, inl, inr}
 use native.Mathlib.Omega.{arith}
 use lib.Dec.{eqb}
 use Rattle.base.specs.Answer.{Test, refuseIf, lastRefusal, Verdict, accepts, refuses, first, numberOf, firstNumber, figures, refusal, answer}
@@ -91,6 +92,20 @@ module _ (n : ℕ) (b : Bool) where
       go : (b : Bool) → k ≡ numberOf (cond b (refuses n) accepts) → b ≡ false
       go true e = absurd (omega arith)
       go false e = refl
+
+-- Two tests: neither applies, or the first of them that does.
+
+module _ (m n : ℕ) where
+  pub neither-applies : (b c : Bool) → first (refuseIf m b ∷ refuseIf n c ∷ []) ≡ accepts → (b ≡ false) × (c ≡ false)
+  neither-applies true c e = never (cc)
+  neither-applies false true e = never (cc)
+  neither-applies false false e = (refl, refl)
+
+  pub either-applies : (b c : Bool) {k : ℕ} → first (refuseIf m b ∷ refuseIf n c ∷ []) ≡ refuses k
+      → ((k ≡ m) × (b ≡ true)) ⊎ ((k ≡ n) × (b ≡ false) × (c ≡ true))
+  either-applies true c e = inl (cc, refl)
+  either-applies false true e = inr (cc, refl, refl)
+  either-applies false false e = never (cc)
 
 -- A list of tests and those that follow it.
 

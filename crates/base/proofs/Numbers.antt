@@ -10,21 +10,28 @@ use native.Mathlib.Omega.{arith}
 use lib.ListN.{length, getD, take}
 use lib.Seq.{take-suc, take-all, take-length}
 use lib.Dec.{ltb, eqb}
-use borrow.Author.Tests.{eq-eqb, ne-eqb, ltb-true, ltb-false}
+use borrow.Author.Tests.{eq-eqb, ne-eqb, ltb-true, ltb-false, lt-ltb, le-ltb}
 use Rattle.base.specs.Numbers.{outside, difference, member}
 use Rattle.base.proofs.Choice.{below, neither, cond-either}
 
--- a number that is not outside is inside
+-- a number that is not outside is inside, and the other way
 pub inside : (low high n : ℕ) → outside low high n ≡ false → (low ≤ n) × (n ≤ high)
 inside low high n e = let h = neither _ _ e in (ltb-false n low (h .0), ltb-false high n (h .1))
 
--- and one that is outside lies below or above
+pub inside-back : (low high n : ℕ) → low ≤ n → n ≤ high → outside low high n ≡ false
+inside-back low high n h k = rw (le-ltb n low h, le-ltb high n k) refl
+
+-- one that is outside lies below or above, and the other way
 pub beyond : (low high n : ℕ) → outside low high n ≡ true → (n < low) ⊎ (high < n)
 beyond low high n e = go (ltb n low) refl e
   where
     go : (b : Bool) → ltb n low ≡ b → (b || ltb high n) ≡ true → (n < low) ⊎ (high < n)
     go true z e = inl (ltb-true n low z)
     go false z e = inr (ltb-true high n e)
+
+pub beyond-back : (low high n : ℕ) → (n < low) ⊎ (high < n) → outside low high n ≡ true
+beyond-back low high n (inl h) = rw (lt-ltb n low h) refl
+beyond-back low high n (inr h) = rw (lt-ltb high n h) (or-true (ltb n low))
 
 -- for `omega`: of the two differences that stop at 0, one is 0
 pub difference-sum : (a b : ℕ) → difference a b ≡ (a - b) + (b - a)

@@ -11,7 +11,7 @@ use Rattle.laboratory.specs.Inner.{NotBelow}
 use Rattle.laboratory.proofs.Neighbours.{rises, rises-from, nearest-beside}
 
 module _ (p : Report) (t : TemperatureInRange p) {r : ℕ} (n : NotBelow p r) where
-  -- the next field lies farther off
+  -- the next field lies no nearer
   next : r < highestDensity → distance p r ≤ distance p (r + 1)
   next h =
       omega (

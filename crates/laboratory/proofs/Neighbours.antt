@@ -34,11 +34,11 @@ pub record Beside (p : Report) (r : ℕ) : Type 0 where
 abbrev pub besideTest : Report → ℕ → Bool
 besideTest p r = (leb r lowestDensity || ltb (distance p r) (distance p (r - 1))) && (leb highestDensity r || leb (distance p r) (distance p (r + 1)))
 
-pub beside-by : (p : Report) (r : ℕ) → lowestDensity ≤ r → r ≤ highestDensity → besideTest p r ≡ true → Beside p r
-beside-by p r light dense e =
+pub beside-by : (p : Report) (r : ℕ) → DensityInRange r → besideTest p r ≡ true → Beside p r
+beside-by p r field e =
     let h = both-hold _ _ e in
     record {
-      field = record { light = light; dense = dense };
+      field = field;
       before = λ q. ltb-true (distance p r) (distance p (r - 1)) (second-holds _ _ (lt-leb r lowestDensity q) (h .0));
       next = λ q. leb-true (distance p r) (distance p (r + 1)) (second-holds _ _ (lt-leb highestDensity r q) (h .1));
     }

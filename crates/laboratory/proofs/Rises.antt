@@ -1,5 +1,5 @@
 -- From one field to the next the density at a laboratory's temperature rises by 1 or 2: r × B falls fast enough that r × (1 − E) falls
--- too, so that r × E rises by more than 1.
+-- too, so that r × E rises by 1 at least; and by 2 at most.
 use Prim.Native.Nat.{ℕ, _+_, _-_, _*_, _≤_, _<_}
 use mathlib.Core.Path.{_≡_, subst}
 use native.Mathlib.Nat.{mul-le-mul, mul-le-mul-left, mul-le-mul-right, le-of-mul-le-mul-left}
@@ -32,7 +32,7 @@ step-of-product r b d x q dense hb hd hx small rise =
 step-of-x-most : (r c k d q : ℕ) → r < highestDensity → c ≤ mostExpansion → d ≤ mostAbove15 → r * (c + k) ≤ (r + 1) * c + 250_000 → q ≤ 2 * (k * d) + 1
     → r * q ≤ 1_600_000_000
 step-of-x-most r c k d q dense hc hd h g =
-    let rk : r * k ≤ 1_021_027 = omega (arith, h) in
+    let rk : r * k ≤ mostExpansion + 250_000 = omega (arith, h) in
     omega (arith, mul-le-mul-left r g, mul-le-mul rk hd)
 
 step-of-product-most : (r x q : ℕ) → r < highestDensity → x + q ≤ mostExponent → r * q ≤ 1_600_000_000

@@ -8,7 +8,7 @@ use native.Mathlib.Omega.{arith}
 use lib.Dec.{ltb, leb}
 use borrow.Author.Tests.{leb-true, ltb-true, ltb-false}
 use Rattle.base.proofs.Choice.{below, both-hold}
-use Rattle.heating.specs.Limits.{lowestDensity, highestDensity, DensityInRange}
+use Rattle.heating.specs.Limits.{lowestDensity, DensityInRange}
 use Rattle.laboratory.specs.declared.Report.{Report}
 use Rattle.laboratory.specs.Nearest.{distance, Nearest}
 
@@ -40,9 +40,9 @@ module _ (p : Report) (r : ℕ) where
       go true z e = let h = ltb-true (distance p r) (distance p s) e in (omega (arith, h), λ q. omega (arith, h, q))
       go false z e = (leb-true (distance p r) (distance p s) e, λ q. ltb-false s r z)
 
-  pub nearest-by : lowestDensity ≤ r → r ≤ highestDensity → nearestTest ≡ true → Nearest p r
-  nearest-by light dense e = record {
-    field = record { light = light; dense = dense };
+  pub nearest-by : DensityInRange r → nearestTest ≡ true → Nearest p r
+  nearest-by field e = record {
+    field = field;
     none-nearer = λ s f. behind s (test s f) .0;
     smallest = λ s f. behind s (test s f) .1;
   }

@@ -8,7 +8,7 @@ use Rattle.laboratory.specs.declared.Report.{Report}
 use Rattle.laboratory.specs.declared.DensityAt15.{DensityAt15}
 use Rattle.laboratory.specs.declared.DensityAt15.the-variants.{Density, Refused}
 use Rattle.laboratory.specs.Nearest.{densityThere, distance, Nearest}
-use Rattle.laboratory.specs.Answers.{coldest, hottest}
+use Rattle.laboratory.specs.Answers.{coldest, hottest, reportTold}
 
 -- the temperature is in the range of 26
 pub record TemperatureInRange (p : Report) : Type 0 where
@@ -36,3 +36,8 @@ pub record FarOff (p : Report) : Type 0 where
 abbrev pub ToldRight : Report → DensityAt15 → Type 0
 ToldRight p (Density r) = FieldRight p (r .0)
 ToldRight p (Refused n) = ((n ≡ 26) × TemperatureOutside p) ⊎ ((n ≡ 27) × FarOff p)
+
+-- a is right so, and whatever else is says the same
+pub record ToldOnly (p : Report) (a : DensityAt15) : Type 0 where
+  pub right : ToldRight p a
+  pub only : (b : DensityAt15) → ToldRight p b → reportTold b ≡ reportTold a

@@ -3,7 +3,7 @@ ghost use mathlib.Core.Path.{_≡_};
 ghost use Rattle.heating.specs.Limits.{DensityInRange};
 ghost use Rattle.laboratory.specs.Nearest.{densityThere, distance, Nearest};
 ghost use Rattle.laboratory.specs.Answers.{OnlyAnswer, reportTold};
-ghost use Rattle.laboratory.specs.Told.{TemperatureInRange, ToldRight};
+ghost use Rattle.laboratory.specs.Told.{TemperatureInRange, ToldOnly};
 ghost use Rattle.laboratory.specs.Card.{ReportsRight};
 ghost use Rattle.laboratory.specs.Inner.{NotBelow};
 use heating::Density15;
@@ -68,7 +68,7 @@ fn nearest(report: Report) -> u32
 
 // The density at 15 °C that comes nearest to a report, or the first of 26 and 27.
 pub fn density_at_15(report: Report) -> DensityAt15
-    ensures { λ r. ⌜ OnlyAnswer report (reportTold r) × ToldRight report r × ReportsRight ⌝ }
+    ensures { λ r. ⌜ OnlyAnswer report (reportTold r) × ToldOnly report r × ReportsRight ⌝ }
 {
     let by_temperature = thermal::outside_refusal(26, COLDEST, HOTTEST, report.temperature);
     if by_temperature != 0 {

@@ -7,8 +7,6 @@ use Rattle.base.specs.Rounding.{rounded}
 use Rattle.base.proofs.Rounding.{round-down, round-up, halves}
 use Rattle.base.proofs.round_half_up.Statement.{statement}
 use Rattle.base.proofs.round_half_up.Tie as tie
-use Rattle.base.proofs.round_half_up.Reads as reads
-use Rattle.base.proofs.round_half_up.Lts as lts
 
 -- the divisor is not 0 past the first test
 positive : (c : tie.Else1) → 0 < c .before .args .d

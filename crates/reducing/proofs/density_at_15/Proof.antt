@@ -12,17 +12,17 @@ use Rattle.laboratory.specs.declared.DensityAt15.{DensityAt15}
 use Rattle.laboratory.specs.declared.DensityAt15.the-variants.{Density, Refused}
 use Rattle.laboratory.specs.Nearest.{distance}
 use Rattle.laboratory.specs.Answers.{temperatureBad, ReportAnswer, OnlyAnswer, reportTold}
-use Rattle.laboratory.specs.Told.{ToldRight}
+use Rattle.laboratory.specs.Told.{ToldOnly}
 use Rattle.laboratory.specs.Card.{ReportsRight}
 use Rattle.laboratory.proofs.Answers.{turned-away, too-far, found, only-answer}
-use Rattle.laboratory.proofs.Told.{temperature-in, told-right}
+use Rattle.laboratory.proofs.Told.{temperature-in, told-only}
 use Rattle.laboratory.proofs.AgainstCard.{reports-right}
 use Rattle.reducing.proofs.density_at_15.Statement.{statement}
 use Rattle.reducing.proofs.density_at_15.Tie as tie
 
 -- all that is promised of the answer
-promised : {p : Report} (a : DensityAt15) → ReportAnswer p (reportTold a) → OnlyAnswer p (reportTold a) × ToldRight p a × ReportsRight
-promised {p} a w = (only-answer w, told-right p a w, reports-right)
+promised : {p : Report} (a : DensityAt15) → ReportAnswer p (reportTold a) → OnlyAnswer p (reportTold a) × ToldOnly p a × ReportsRight
+promised {p} a w = (only-answer w, told-only p a w, reports-right)
 
 -- past the first test
 not26 : (c : tie.Else1) → temperatureBad (c .before .before .args .report) ≡ false
