@@ -2,8 +2,9 @@
 //! show in the answer of the vectors made for it.
 
 mod roundings;
+mod turns;
 
-use reference::conformance::vectors::{all, laboratory::Vector};
+use reference::conformance::vectors::{all, laboratory::halves::BESIDE, laboratory::Vector};
 
 use roundings::{rounded, Rounding};
 
@@ -35,6 +36,8 @@ enum Turn {
     CoefficientOfFieldAbove,
     CoefficientOf9500,
     CoefficientOfReport,
+    /// B as a fraction, all behind it rounded by the rule.
+    CoefficientUnrounded,
     /// One part of B in single floating point.
     Single(Part),
     InFloatingPoint,
@@ -70,6 +73,10 @@ fn nearest(dividend: u64, divisor: u64) -> u64 {
     rounded(None, dividend, divisor)
 }
 
+fn nearest_of_wide(dividend: u128, divisor: u128) -> u128 {
+    (2 * dividend + divisor) / (2 * divisor)
+}
+
 impl Turn {
     fn answer(self, vector: &Vector) -> Seen {
         let (mut reported, mut temperature) =
@@ -85,9 +92,10 @@ impl Turn {
         let (lowest, highest) =
             if let Self::Temperatures(low, high) = self { (low, high) } else { (200, 900) };
         if !(lowest..=highest).contains(&temperature) {
-            let near = temperature.clamp(200, 900) - 150;
-            let far = self.search(reported, near).is_err();
-            return Err(if far && self == Self::DensityBeforeTemperature { 27 } else { 26 });
+            // Above 200 °C, where numbers on the way would overflow, E is taken as it is at 200 °C.
+            let tenths = temperature.min(2_000).saturating_sub(150);
+            let far = || self.search(reported, tenths).is_err();
+            return Err(if self == Self::DensityBeforeTemperature && far() { 27 } else { 26 });
         }
         let tenths = match self {
             Self::From20 => temperature - 200,
@@ -131,6 +139,7 @@ impl Turn {
             Self::CoefficientOfFieldAbove => self.contraction(r + 1, tenths),
             Self::CoefficientOf9500 => self.contraction(9_500, tenths),
             Self::CoefficientOfReport => self.contraction(reported.clamp(1_000, 20_000), tenths),
+            Self::CoefficientUnrounded => return with_b_unrounded(r.into(), tenths.into()),
             Self::InFloatingPoint => return in_floating_point(r as f64, tenths as f64),
             Self::InSingleFloatingPoint => return in_single(r as f32, tenths as f32),
             _ => self.contraction(r, tenths),
@@ -181,9 +190,8 @@ impl Turn {
     /// An answer got without a search, where the turn is one.
     fn by_formula(self, reported: u64, tenths: u64) -> Option<Seen> {
         let over = |reported: u64, r: u64| {
-            let dividend = u128::from(reported) * u128::from(ONE);
-            let divisor = u128::from(self.contraction(r.clamp(1_000, 20_000), tenths));
-            ((2 * dividend + divisor) / (2 * divisor)) as u64
+            let divisor = self.contraction(r.clamp(1_000, 20_000), tenths);
+            nearest_of_wide(u128::from(reported) * u128::from(ONE), divisor.into()) as u64
         };
         let found = match self {
             Self::ReportOverE(times) => (0..=times).fold(reported, |r, _| over(reported, r)),
@@ -211,6 +219,19 @@ impl Turn {
         let (below, above) = (at(low), at(low + step));
         Ok((low + nearest(reported.saturating_sub(below) * step, above - below)).min(9_900))
     }
+}
+
+/// B, X, the terms and E stand over r², as what is above the line.
+fn with_b_unrounded(r: u128, tenths: u128) -> u64 {
+    let (one, line) = (u128::from(ONE), r * r);
+    let plain = (18_696_960_000_000 + 4_861_800_000 * r) * tenths;
+    let exponent = plain + line * nearest_of_wide(8 * plain * plain, 10 * one * line * line);
+    let (mut sum, mut term) = (one * line - exponent, exponent);
+    for power in 2..=6 {
+        term = line * nearest_of_wide(term * exponent, power * one * line * line);
+        sum = if power % 2 == 0 { sum + term } else { sum - term };
+    }
+    nearest_of_wide(r * sum, one * line) as u64
 }
 
 /// In double floating point, nothing rounded on the way.
@@ -277,8 +298,8 @@ const TURNS: &[(&str, &[Turn])] = &[
     ("parting-square-of-b-in-single-floating-point", &[Turn::Single(Part::Square)]),
     ("parting-sum-of-b-in-single-floating-point", &[Turn::Single(Part::Sum)]),
     ("parting-quotient-of-b-in-single-floating-point", &[Turn::Single(Part::Quotient)]),
-    ("parting-b-not-rounded", &[Turn::InFloatingPoint]),
-    ("parting-b-not-rounded-goes-up", &[Turn::InFloatingPoint]),
+    ("parting-b-not-rounded", &[Turn::CoefficientUnrounded, Turn::InFloatingPoint]),
+    ("parting-b-not-rounded-goes-up", &[Turn::CoefficientUnrounded]),
     ("parting-square-left-out", &[Turn::SquareLeftOut]),
     ("parting-square-taken-off", &[Turn::SquareTakenOff]),
     ("parting-two-terms", &[Turn::Terms(2)]),
@@ -297,14 +318,7 @@ const TURNS: &[(&str, &[Turn])] = &[
 
 #[test]
 fn every_wrong_turn_shows_in_its_vector() {
-    let vectors = all::<Vector>();
-    for (name, turns) in TURNS {
-        let vector = vectors.iter().find(|vector| vector.name == *name).expect(name);
-        let answer = Turn::None.answer(vector);
-        for turn in *turns {
-            assert_ne!(turn.answer(vector), answer, "{name}: {turn:?} does not show");
-        }
-    }
+    turns::shows(TURNS, Turn::None, Turn::answer);
 }
 
 #[test]
@@ -330,19 +344,26 @@ fn no_density_lies_at_a_half_or_within_a_unit_of_e() {
 }
 
 #[test]
-fn a_slip_of_15_units_of_e_shows_in_every_half() {
-    for vector in all::<Vector>().iter().filter(|vector| vector.name.starts_with("half-")) {
-        let answer = Turn::None.answer(vector);
-        let shows = |units: i64| Turn::Slip(units).answer(vector) != answer;
-        assert!(shows(15) || shows(-15), "{}", vector.name);
+fn every_half_shows_slips_of_e_from_the_least_on_to_one_side() {
+    for (reported, temperature, least) in BESIDE {
+        let vector = Vector { name: String::new(), reported, temperature };
+        for units in -15..=15 {
+            let shows = Turn::Slip(units).answer(&vector) != Turn::None.answer(&vector);
+            let beyond = units * least.signum() >= least.abs();
+            assert_eq!(shows, beyond, "{units} in {reported} at {temperature}");
+        }
+    }
+}
+
+#[test]
+fn the_density_before_the_temperature_shows_in_every_order() {
+    let vectors = all::<Vector>();
+    for vector in vectors.iter().filter(|vector| vector.name.starts_with("order-26-before-27-")) {
+        assert_eq!(Turn::DensityBeforeTemperature.answer(vector), Err(27), "{}", vector.name);
     }
 }
 
 #[test]
 fn every_parting_vector_has_a_wrong_turn() {
-    for Vector { name, .. } in all::<Vector>() {
-        if name.starts_with("parting-") {
-            assert!(TURNS.iter().any(|(of, _)| *of == name), "{name} shows no wrong turn");
-        }
-    }
+    turns::has_all::<Vector, _>(TURNS, "parting-");
 }

@@ -2,6 +2,7 @@
 //! answer of the vectors made for it.
 
 mod roundings;
+mod turns;
 
 use reference::car::{Car, Figures};
 use reference::conformance::vectors::{all, permitted::Vector};
@@ -374,14 +375,7 @@ const TURNS: &[(&str, &[Turn])] = &[
 
 #[test]
 fn every_wrong_turn_shows_in_its_vector() {
-    let vectors = all::<Vector>();
-    for (name, turns) in TURNS {
-        let vector = vectors.iter().find(|vector| vector.name == *name).expect(name);
-        let answer = Turn::None.answer(vector);
-        for turn in *turns {
-            assert_ne!(turn.answer(vector), answer, "{name}: {turn:?} does not show");
-        }
-    }
+    turns::shows(TURNS, Turn::None, Turn::answer);
 }
 
 #[test]
@@ -395,9 +389,6 @@ fn without_a_wrong_turn_the_answers_are_the_same() {
 
 #[test]
 fn every_parting_and_rounding_vector_has_a_wrong_turn() {
-    for Vector { name, .. } in all::<Vector>() {
-        if name.starts_with("parting-") || name.starts_with("rounding-") {
-            assert!(TURNS.iter().any(|(of, _)| *of == name), "{name} shows no wrong turn");
-        }
-    }
+    turns::has_all::<Vector, _>(TURNS, "parting-");
+    turns::has_all::<Vector, _>(TURNS, "rounding-");
 }

@@ -2,31 +2,31 @@
 
 use super::{Group, Vector};
 
-/// Reports at temperatures that are answered otherwise where E, in 10⁻¹⁰, slips by 2 units, by 3, and
-/// so on up to 15. One unit turns no report.
-const BESIDE: [(u32, u32); 18] = [
-    (8_993, 426),
-    (9_448, 332),
-    (9_523, 435),
-    (9_679, 426),
-    (8_934, 669),
-    (8_732, 799),
-    (9_558, 227),
-    (9_089, 505),
-    (9_014, 393),
-    (8_983, 289),
-    (9_391, 880),
-    (9_217, 232),
-    (9_020, 562),
-    (9_380, 336),
-    (8_587, 823),
-    (9_563, 428),
-    (9_314, 757),
-    (9_436, 812),
+/// Reports, temperatures, and the least slip of E, in 10⁻¹⁰, that turns the answer: 2 to 15 units, to
+/// one side only. One unit turns no report.
+pub const BESIDE: [(u32, u32, i64); 18] = [
+    (8_993, 426, -2),
+    (9_448, 332, -3),
+    (9_523, 435, -3),
+    (9_679, 426, -3),
+    (8_934, 669, 5),
+    (8_732, 799, 6),
+    (9_558, 227, 6),
+    (9_089, 505, -6),
+    (9_014, 393, -7),
+    (8_983, 289, -8),
+    (9_391, 880, -9),
+    (9_217, 232, 10),
+    (9_020, 562, -10),
+    (9_380, 336, -10),
+    (8_587, 823, 13),
+    (9_563, 428, -14),
+    (9_314, 757, -15),
+    (9_436, 812, -15),
 ];
 
 pub fn groups() -> Vec<Group<Vector>> {
-    let named = |(reported, temperature)| {
+    let named = |(reported, temperature, _)| {
         Vector::new(format!("half-{reported}-at-{temperature}"), reported, temperature)
     };
     vec![Group {

@@ -1,7 +1,7 @@
 //! Laboratories' reports that each try one point of the density at 15 °C that is got from them.
 
 mod edges;
-mod halves;
+pub mod halves;
 mod paper;
 mod partings;
 mod refusals;
