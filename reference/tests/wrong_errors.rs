@@ -129,7 +129,8 @@ impl Turn {
                 || (self == Self::NoVolumeAcceptedWithoutLevelError && error == 0);
             return if accepted { Ok(0) } else { Err(25) };
         }
-        let dividend = 10_000_000 * error * capacity_step;
+        // an error that is out of its range may be any number of 32 bits
+        let dividend = (10_000_000 * error).saturating_mul(capacity_step);
         let divisor = level_step * u64::from(volume);
         let term = self.round(Level, dividend, divisor);
         let tested =
