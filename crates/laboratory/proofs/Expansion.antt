@@ -8,11 +8,11 @@ use Rattle.heating.specs.Steps.{expansion}
 
 -- B × r² lies within half of r² of the numerator of step 4
 module _ (r : ℕ) (light : lowestDensity ≤ r) where
-  pub expansion-high : 2 * (expansion r * (r * r)) ≤ 2 * (18_696_960_000_000 + 4_861_800_000 * r) + r * r
+  expansion-high : 2 * (expansion r * (r * r)) ≤ 2 * (18_696_960_000_000 + 4_861_800_000 * r) + r * r
   unfolding expansion
   expansion-high = round-high (18_696_960_000_000 + 4_861_800_000 * r) (r * r)
 
-  pub expansion-low : 2 * (18_696_960_000_000 + 4_861_800_000 * r) < 2 * (expansion r * (r * r)) + r * r
+  expansion-low : 2 * (18_696_960_000_000 + 4_861_800_000 * r) < 2 * (expansion r * (r * r)) + r * r
   unfolding expansion
   expansion-low = round-low (18_696_960_000_000 + 4_861_800_000 * r) (mul-pos {m = r} {n = r} (omega arith) (omega arith))
 

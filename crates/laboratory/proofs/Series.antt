@@ -12,15 +12,11 @@ use Rattle.heating.specs.Inner.{mostExponent}
 use Rattle.heating.specs.Uncut.{AddsUp}
 use Rattle.heating.specs.Steps.{unity, term, series}
 use Rattle.heating.proofs.Budget.{exponentError, series-adds-up}
-
--- a term is at most a thirty-second of the one before it, but for the rounding
-quotient-small : (v n u x : ℕ) → 2 * unity ≤ n → x ≤ mostExponent → 2 * (v * n) ≤ 2 * (u * x) + n → 32 * v ≤ u + 32
-quotient-small zero n u x hn hx h = omega arith
-quotient-small (suc v) n u x hn hx h = omega (arith, mul-le-mul-left v hn, mul-le-mul-left u hx)
+use Rattle.heating.proofs.Bounds.{next-term-small}
 
 term-small : (k x : ℕ) → x ≤ mostExponent → 32 * term (suc (suc k)) x ≤ term (suc k) x + 32
 unfolding term
-term-small k x h = quotient-small _ _ _ x (omega arith) h (round-high (term (suc k) x * x) (suc (suc k) * unity))
+term-small k x h = next-term-small (term (suc k) x) (omega arith) h
 
 -- from u2 on
 term-most : (k x : ℕ) → x ≤ mostExponent → term (suc (suc k)) x ≤ 19_000_000

@@ -1,9 +1,10 @@
 -- `thermal::steps::next_term` meets its contract: a term is at most a sixteenth of the one before it, but for the rounding.
 use borrow.Author.Needs.{needs}
-use Prim.Native.Nat.{_+_, _*_, _≤_}
-use native.Mathlib.Nat.{mul-le-mul, mul-le-mul-left}
+use Prim.Native.Nat.{_*_}
+use native.Mathlib.Nat.{mul-le-mul}
 use native.Mathlib.Omega.{arith}
-use Rattle.base.proofs.Rounding.{round-high}
+use Rattle.heating.specs.Steps.{unity}
+use Rattle.heating.proofs.Bounds.{next-term-small}
 use Rattle.thermal.proofs.steps.next_term.Statement.{statement}
 use Rattle.thermal.proofs.steps.next_term.Tie as tie
 
@@ -18,12 +19,9 @@ round-half-up-requires c κs = search needs
 
 returns : tie.Need-returns
 returns c =
-    let r = c .round-half-up .result in
-    let u = c .before .args .u in
-    let x = c .before .args .x in
-    let k = c .before .args .k in
-    let high : 2 * (r * (k * 10_000_000_000)) ≤ 2 * (u * x) + k * 10_000_000_000 = rw (c .round-half-up .ensures) (round-high (u * x) (k * 10_000_000_000)) in
-    (c .round-half-up .ensures, omega (arith, mul-le-mul-left u (c .before .pre .1), mul-le-mul-left r (c .before .pre .2)))
+    let e = c .round-half-up .ensures in
+    let p = c .before .pre in
+    (e, omega (arith, e, next-term-small (c .before .args .u) {n = c .before .args .k * unity} (omega (arith, p .2)) (p .1)))
 
 pub next-term-spec : {M : Type 1} → statement M
 next-term-spec =
