@@ -37,7 +37,7 @@ pub record OtherCase : Type 0 where
 abbrev isNot : ℕ → ℕ → ℕ → OtherCase
 isNot density t r = record { report = reportOf density t; field = r }
 
--- one beside the nearest, the larger of two that lie as near, the second and the last but one beyond the ends, one past each end
+-- the two beside the nearest; the larger of two that lie as near; beyond the ends the second field and the last but one, and one past each end
 unfoldable pub otherCard : List OtherCase
 otherCard =
     isNot 9_300 500 9_541
