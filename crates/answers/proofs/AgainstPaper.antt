@@ -12,7 +12,7 @@ use Rattle.kilograms.specs.Steps as steps
 use Rattle.car.specs.Measured.{measuredTests, v0, mass, sixFigures}
 use Rattle.car.specs.Car.{carTests}
 use Rattle.base.specs.Total.{total}
-use Rattle.train.specs.Train.{unsound, full, admissionTests, enterTests, enterAnswer, enterTrain}
+use Rattle.consist.specs.Train.{unsound, full, admissionTests, enterTests, enterAnswer, enterTrain}
 use Rattle.grammar.specs.Sheet.{tableLine, rowLine, carLine, endLine, stepOf, lines, sheetOf}
 use Rattle.grammar.specs.Text.{textOf}
 use Rattle.answers.specs.Listing.{replyOf}

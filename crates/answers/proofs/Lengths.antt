@@ -13,11 +13,10 @@ use Rattle.line.specs.Writing.{lineOf}
 use Rattle.line.proofs.Bytes.{small-at, length-lineOf}
 use Rattle.table.specs.Table.{Table, tablesVerdict}
 use Rattle.car.specs.Car.{carOf}
-use Rattle.train.specs.declared.Train.{Train}
-use Rattle.train.specs.Train.{enterAnswer, enterTrain}
-use Rattle.train.specs.Book.{Item, car}
-use Rattle.train.specs.Inner.{Reached}
-use Rattle.train.proofs.Book.{reached-next, reached-four}
+use Rattle.consist.specs.Train.{Train, enterAnswer, enterTrain}
+use Rattle.consist.specs.Book.{Item, car}
+use Rattle.consist.specs.Inner.{Reached}
+use Rattle.consist.proofs.Book.{reached-next, reached-four}
 use Rattle.grammar.specs.Grammar.{CarNumbers, EachCar}
 use Rattle.grammar.specs.Text.{textOf}
 use Rattle.answers.specs.Listing.{itemsOf, answerLine, linesFrom}

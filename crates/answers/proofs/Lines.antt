@@ -29,8 +29,7 @@ use Rattle.car.proofs.Accepted.{Passed, passed-car, known, low, fields, shows}
 use Rattle.car.proofs.Masses.{mass-most}
 use Rattle.summing.specs.declared.Totals.{Totals}
 use Rattle.summing.specs.declared.Sums.{Sums}
-use Rattle.train.specs.declared.Train.{Train}
-use Rattle.train.specs.Train.{trainTests, admissionTests, enterTests, enterAnswer}
+use Rattle.consist.specs.Train.{Train, trainTests, admissionTests, enterTests, enterAnswer}
 use Rattle.summing.specs.Inner.{Low, Sound}
 use Rattle.summing.proofs.Adding.{grades-low}
 use Rattle.grammar.specs.Text.{textOf}

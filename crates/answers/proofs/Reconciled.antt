@@ -18,15 +18,14 @@ use Rattle.car.specs.declared.Measured.{Measured}
 use Rattle.car.specs.Car.{carOf, measured}
 use Rattle.summing.specs.declared.Totals.{Totals}
 use Rattle.summing.specs.declared.Sums.{Sums}
-use Rattle.train.specs.declared.Train.{Train}
 use Rattle.summing.specs.Sums.{Shown, ofGrade, totalsOf, sumsOf, gradeTotals, together}
-use Rattle.train.specs.Train.{emptyTrain, enterAnswer}
-use Rattle.train.specs.Book.{Item, car, itemNumber, loadsOfGrade}
-use Rattle.train.specs.Demand3.{answerTo, trainWith, trainFrom, answersFrom, Close, Answered, entered, InOrder}
-use Rattle.train.specs.Inner.{Reached}
-use Rattle.train.proofs.Taken.{close}
-use Rattle.train.proofs.Order.{in-order}
-use Rattle.train.proofs.Book.{reconciled, reached-first, reached-sound, reached-four}
+use Rattle.consist.specs.Train.{Train, emptyTrain, enterAnswer}
+use Rattle.consist.specs.Book.{Item, car, itemNumber, loadsOfGrade}
+use Rattle.consist.specs.Demand3.{answerTo, trainWith, trainFrom, answersFrom, Close, Answered, entered, InOrder}
+use Rattle.consist.specs.Inner.{Reached}
+use Rattle.consist.proofs.Taken.{close}
+use Rattle.consist.proofs.Order.{in-order}
+use Rattle.consist.proofs.Book.{reconciled, reached-first, reached-sound, reached-four}
 use Rattle.grammar.specs.Text.{textOf}
 use Rattle.grammar.specs.Grammar.{EachCar}
 use Rattle.grammar.specs.Sheet.{SheetRead, refusedAt, whole, sheetOf}

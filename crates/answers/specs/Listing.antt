@@ -14,10 +14,9 @@ use Rattle.table.specs.Table.{Table}
 use Rattle.car.specs.Car.{carOf}
 use Rattle.summing.specs.declared.Totals.{Totals}
 use Rattle.summing.specs.declared.Sums.{Sums}
-use Rattle.train.specs.declared.Train.{Train}
-use Rattle.train.specs.Train.{emptyTrain}
-use Rattle.train.specs.Book.{Item, car, itemNumber}
-use Rattle.train.specs.Demand3.{answerTo, trainWith}
+use Rattle.consist.specs.Train.{Train, emptyTrain}
+use Rattle.consist.specs.Book.{Item, car, itemNumber}
+use Rattle.consist.specs.Demand3.{answerTo, trainWith}
 use Rattle.grammar.specs.Text.{lineWith, textOf}
 use Rattle.grammar.specs.Sheet.{SheetRead, refusedAt, whole, sheetOf}
 use Rattle.answers.specs.declared.Reply.{Reply}

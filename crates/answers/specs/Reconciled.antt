@@ -16,9 +16,9 @@ use Rattle.car.specs.declared.Measured.{Measured}
 use Rattle.car.specs.Measured.{gross, net}
 use Rattle.car.specs.Car.{measured}
 use Rattle.summing.specs.Sums.{Shown, shownMass, ofGrade}
-use Rattle.train.specs.Train.{emptyTrain}
-use Rattle.train.specs.Book.{Item, car, itemNumber, Load, loads, loadsOfGrade, bookFrom}
-use Rattle.train.specs.Demand3.{Close, answersFrom, shown, Reconciled, InOrder}
+use Rattle.consist.specs.Train.{emptyTrain}
+use Rattle.consist.specs.Book.{Item, car, itemNumber, Load, loads, loadsOfGrade, bookFrom}
+use Rattle.consist.specs.Demand3.{Close, answersFrom, shown, Reconciled, InOrder}
 use Rattle.grammar.specs.Sheet.{SheetRead, refusedAt, whole}
 use Rattle.grammar.specs.Text.{lineWith}
 use Rattle.answers.specs.Listing.{itemsOf, answerLine, linesFrom, answerLines}

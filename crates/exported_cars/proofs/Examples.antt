@@ -1,43 +1,9 @@
--- Worked examples, computed: a train as a caller finds it in the lent numbers, and the lengths of a car's slices.
+-- Worked examples, computed: the lengths of a car's slices.
 use mathlib.Core.Path.{_≡_, refl}
 use mathlib.Core.Bool.{true, false}
-use Prim.Native.Nat.{ℕ}
-use mathlib.Core.List.{List, [], _∷_}
 use lib.ListN.{replicate}
-use Rattle.train.specs.declared.Train.{Train}
 use Rattle.marshalling.specs.Layout.{tablesSized}
-use Rattle.exported_cars.specs.Layout.{carSized, trainNumbers, trainOf, trainPlaces}
-
--- of all cars 5 · 2³² + 7 kg and 2³² + 6 kg, each as a low and a high half; each grade's totals in their place
-abbrev example : Train
-example = record {
-  sums = record {
-    all = record { accepted = 3; gross = 21_474_836_487; net = 4_294_967_302 };
-    grades = record { accepted = 1; gross = 13; net = 12 } ∷ record { accepted = 2; gross = 23; net = 22 } ∷ record { accepted = 3; gross = 33; net = 32 }
-        ∷ record { accepted = 4; gross = 43; net = 8_589_934_634 } ∷ [];
-  };
-  held = 4;
-  numbers = 11 ∷ 12 ∷ [];
-}
-
-abbrev exampleNumbers : List ℕ
-exampleNumbers =
-    3 ∷ 7 ∷ 5 ∷ 6 ∷ 1
-    ∷ 1 ∷ 13 ∷ 0 ∷ 12 ∷ 0
-    ∷ 2 ∷ 23 ∷ 0 ∷ 22 ∷ 0
-    ∷ 3 ∷ 33 ∷ 0 ∷ 32 ∷ 0
-    ∷ 4 ∷ 43 ∷ 0 ∷ 42 ∷ 2
-    ∷ 4
-    ∷ 11 ∷ 12 ∷ []
-
-train-lent : trainNumbers example ≡ exampleNumbers
-train-lent = refl
-
-train-read : trainOf exampleNumbers ≡ example
-train-read = refl
-
-train-places : trainPlaces ≡ 86
-train-places = refl
+use Rattle.exported_cars.specs.Lengths.{carSized}
 
 six-figures : carSized (replicate 4 0) (replicate 4 0) (replicate 1_600 0) (replicate 1_600 0) (replicate 14 0) (replicate 6 0) ≡ true
 unfolding tablesSized carSized

@@ -2,17 +2,17 @@
 ghost use mathlib.Core.Path.{_≡_};
 ghost use lib.ListN.{length};
 ghost use Rattle.car.specs.Car.{carOf, aloneAnswer, carTold};
-ghost use Rattle.train.specs.Train.{emptyTrain, enterAnswer, enterTrain};
+ghost use Rattle.consist.specs.Train.{emptyTrain, enterAnswer, enterTrain};
 ghost use Rattle.base.specs.Answer.{figures};
 ghost use Rattle.marshalling.specs.Handed.{lengthIs, sized, Handed, figuresLeft};
 ghost use Rattle.marshalling.specs.Layout.{tablesLent};
-ghost use Rattle.exported_cars.specs.Layout.{carSized, trainSized, figureCount, trainPlaces, trainOf, trainNumbers, TrainHanded};
-use crate::trains;
-use crate::trains::TRAIN_PLACES;
+ghost use Rattle.trainslice.specs.Layout.{trainPlaces, trainOf, trainNumbers, TrainHanded};
+ghost use Rattle.exported_cars.specs.Lengths.{carSized, trainSized, figureCount};
 use car::CarAnswer;
 use marshalling::BAD_LENGTH;
 use reading::MOST_FIELDS;
 use train::Train;
+use trainslice::TRAIN_PLACES;
 
 // How many numbers an accepted car shows.
 const FIGURES: usize = 6;
@@ -86,7 +86,7 @@ pub extern "C" fn rack_train_empty(train: &mut [u32]) -> u32
     if train.len() != TRAIN_PLACES {
         return BAD_LENGTH;
     }
-    trains::write_train(Train::empty(), train);
+    trainslice::write_train(Train::empty(), train);
     0
 }
 
@@ -120,10 +120,10 @@ pub extern "C" fn rack_train_enter(
         let d = marshalling::directory_of(count, types, rows);
         let level_places = marshalling::all_places(levels);
         let capacity_places = marshalling::all_places(capacities);
-        let running = trains::train_of(train);
+        let running = trainslice::train_of(train);
         let step = running.enter(d, &level_places, &capacity_places, marshalling::car_of(car));
         let next = step.train;
-        trains::write_train(next, train);
+        trainslice::write_train(next, train);
         let answer = step.answer;
         return hand_over(answer, figures);
     }

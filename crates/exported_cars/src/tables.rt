@@ -3,7 +3,7 @@ ghost use mathlib.Core.Path.{_≡_};
 ghost use Rattle.gauging.specs.Capacity.{volumeAnswer};
 ghost use Rattle.marshalling.specs.Handed.{numberHanded, sized, figureLeft, Handed};
 ghost use Rattle.marshalling.specs.Layout.{tablesLent, tablesSized};
-ghost use Rattle.exported_cars.specs.Layout.{tablesAnswer};
+ghost use Rattle.exported_cars.specs.Lengths.{tablesAnswer};
 use gauging::Volume;
 use marshalling::BAD_LENGTH;
 

@@ -14,11 +14,10 @@ use Rattle.line.specs.Writing.{lineOf, writable}
 use Rattle.table.specs.Table.{Table, tablesVerdict}
 use Rattle.table.proofs.Arrays.{one-left, none-left}
 use Rattle.car.specs.Car.{carOf}
-use Rattle.train.specs.declared.Train.{Train}
-use Rattle.train.specs.Train.{emptyTrain, enterAnswer, enterTrain}
-use Rattle.train.specs.Book.{car}
-use Rattle.train.specs.Inner.{Reached}
-use Rattle.train.proofs.Book.{reached-first, reached-next, reached-sound, reached-four}
+use Rattle.consist.specs.Train.{Train, emptyTrain, enterAnswer, enterTrain}
+use Rattle.consist.specs.Book.{car}
+use Rattle.consist.specs.Inner.{Reached}
+use Rattle.consist.proofs.Book.{reached-first, reached-next, reached-sound, reached-four}
 use Rattle.holding.specs.Layout.{carsFrom, carsOf}
 use Rattle.grammar.specs.Grammar.{EachCar}
 use Rattle.holding.proofs.Arrays.{length-cars}

@@ -6,7 +6,7 @@ ghost use Rattle.base.specs.Buffer.{put};
 ghost use Rattle.base.specs.Limits.{mostCars};
 ghost use Rattle.table.specs.Layout.{tablesOf};
 ghost use Rattle.car.specs.Car.{carOf};
-ghost use Rattle.train.specs.Train.{emptyTrain};
+ghost use Rattle.consist.specs.Train.{emptyTrain};
 ghost use Rattle.grammar.specs.Text.{textOf};
 ghost use Rattle.grammar.specs.Sheet.{sheetOf};
 ghost use Rattle.grammar.specs.ByGrammar.{ReadByGrammar};
@@ -19,12 +19,12 @@ use answers::Reply;
 use base::GRADES;
 use base::MOST_CARS;
 use car::Car;
+use entering::Tally;
 use heating::Density15;
 use holding::CAR_NUMBERS;
 use holding::Outcome;
 use table::Directory;
 use table::PLACES;
-use train::Tally;
 use train::Train;
 
 // The longest answer, in bytes, and so the least buffer: a line for each of sixty cars, S, and G for each grade.
@@ -91,7 +91,7 @@ fn write_listing(
     let mut i: usize = 0;
     while i < cars {
         let car = car_at(fields, i);
-        let entered = train::enter_on(tally, &mut numbers, d, levels, capacities, car);
+        let entered = entering::enter_on(tally, &mut numbers, d, levels, capacities, car);
         let answer = entered.answer;
         tally = entered.tally;
         at = printing::append_line(out, at, printing::answer_line(car.number, answer));

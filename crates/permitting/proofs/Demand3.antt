@@ -13,9 +13,9 @@ use Rattle.car.specs.declared.Measured.{Measured}
 use Rattle.car.specs.Measured.{Mass, gross, net, sixFigures}
 use Rattle.car.specs.Car.{measured, figuresOf, aloneTests, aloneAnswer}
 use Rattle.car.specs.Exact.{massˣ, distance}
-use Rattle.train.specs.Demand3.{massIn, Close, Comparable, Figurewise, InOrder, alone}
-use Rattle.train.proofs.Taken.{close}
-use Rattle.train.proofs.Order.{in-order}
+use Rattle.consist.specs.Demand3.{massIn, Close, Comparable, Figurewise, InOrder, alone}
+use Rattle.consist.proofs.Taken.{close}
+use Rattle.consist.proofs.Order.{in-order}
 use Rattle.accuracy.specs.declared.Errors.{Errors}
 use Rattle.accuracy.specs.Permitted.{errorTests, termTests, permittedTests, eightFigures, PermittedAnswer}
 

@@ -5,7 +5,7 @@ ghost use Rattle.base.specs.Answer.{accepts, first, figures};
 ghost use Rattle.table.specs.Layout.{tablesOf};
 ghost use Rattle.car.specs.Measured.{v0};
 ghost use Rattle.car.specs.Car.{measured, figuresOf, aloneTests, carTold};
-ghost use Rattle.train.specs.Demand3.{Close, InOrder};
+ghost use Rattle.consist.specs.Demand3.{Close, InOrder};
 ghost use Rattle.accuracy.specs.Permitted.{
   mostLevelError,
   levelTermOf,

@@ -7,7 +7,6 @@ mod alone; // alone.rt: a car by itself
 mod running; // running.rt: the running train
 
 pub use alone::work_out;
-pub use running::enter_on;
 
 // The running train: its sums, and the numbers it holds, in the first `held` places.
 pub struct Train {
@@ -20,16 +19,4 @@ pub struct Train {
 pub struct Step {
     pub answer: CarAnswer,
     pub train: Train,
-}
-
-// All of a train but its numbers, which lie in an array that is lent.
-pub struct Tally {
-    pub sums: Sums,
-    pub held: u32,
-}
-
-// What entering a car in such a train gives.
-pub struct Entered {
-    pub answer: CarAnswer,
-    pub tally: Tally,
 }

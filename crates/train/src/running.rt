@@ -1,27 +1,21 @@
 // The running train: empty, and with one car more entered.
 ghost use mathlib.Core.Path.{_≡_};
 ghost use mathlib.Core.List.{List};
-ghost use lib.ListN.{length};
-ghost use Rattle.base.specs.Limits.{mostCars};
-ghost use Rattle.base.specs.Answer.{firstNumber};
 ghost use Rattle.table.specs.Layout.{tablesOf};
-ghost use Rattle.table.specs.Inner.{Good};
 ghost use Rattle.car.specs.Car.{measured, carTold};
-ghost use Rattle.train.specs.Train.{unsound, emptyTrain, enterAnswer, enterTrain};
-ghost use Rattle.train.specs.Book.{Item};
-ghost use Rattle.train.specs.Book.{car as carItem};
-ghost use Rattle.train.specs.Demand3.{Close, Reconciled, Continues, InOrder};
-ghost use Rattle.train.specs.Examples.{BookExample, GradesExample, EnterOrder};
-ghost use Rattle.summing.specs.Inner.{Sound};
-ghost use Rattle.train.specs.Inner.{lentTrain, placeTests};
-use crate::Entered;
+ghost use Rattle.consist.specs.Train.{unsound, emptyTrain, enterAnswer, enterTrain};
+ghost use Rattle.consist.specs.Book.{Item};
+ghost use Rattle.consist.specs.Book.{car as carItem};
+ghost use Rattle.consist.specs.Demand3.{Close, Reconciled, Continues, InOrder};
+ghost use Rattle.consist.specs.Examples.{BookExample, GradesExample, EnterOrder};
+ghost use Rattle.train.specs.Told.{trainTold};
 use crate::Step;
-use crate::Tally;
 use crate::Train;
 use base::GRADES;
 use base::MOST_CARS;
 use car::Car;
 use car::CarAnswer;
+use entering::Tally;
 use summing::Sums;
 use summing::Totals;
 use table::Directory;
@@ -33,7 +27,7 @@ const MOST_IN_TRAIN: u64 = 12_000_000;
 impl Train {
     // A train with no cars.
     pub fn empty() -> Train
-        ensures { λ r. ⌜ (r ≡ emptyTrain) × ((items : List Item) → Reconciled items) × BookExample × GradesExample ⌝ }
+        ensures { λ r. ⌜ (trainTold r ≡ emptyTrain) × ((items : List Item) → Reconciled items) × BookExample × GradesExample ⌝ }
     {
         let none = Totals {
             accepted: 0,
@@ -53,7 +47,7 @@ impl Train {
 
     // 9 of a train handed in, but for the numbers that it holds: over its limits, or not the sums of its grades.
     fn is_unsound(self) -> bool
-        ensures { λ r. ⌜ r ≡ unsound self ⌝ }
+        ensures { λ r. ⌜ r ≡ unsound (trainTold self) ⌝ }
     {
         let sums = self.sums;
         let all = sums.all;
@@ -78,11 +72,11 @@ impl Train {
         car: Car,
     ) -> Step
         ensures { λ r. ⌜
-            (carTold (r .answer) ≡ enterAnswer (tablesOf d (now (levels .entry)) (now (capacities .entry))) self car)
-            × (r .train ≡ enterTrain (tablesOf d (now (levels .entry)) (now (capacities .entry))) self car)
+            (carTold (r .answer) ≡ enterAnswer (tablesOf d (now (levels .entry)) (now (capacities .entry))) (trainTold self) car)
+            × (trainTold (r .train) ≡ enterTrain (tablesOf d (now (levels .entry)) (now (capacities .entry))) (trainTold self) car)
             × Close (tablesOf d (now (levels .entry)) (now (capacities .entry))) (measured car) (carTold (r .answer))
             × InOrder (tablesOf d (now (levels .entry)) (now (capacities .entry))) (measured car) (carTold (r .answer))
-            × Continues self (carItem (tablesOf d (now (levels .entry)) (now (capacities .entry))) car) (carTold (r .answer)) (r .train)
+            × Continues (trainTold self) (carItem (tablesOf d (now (levels .entry)) (now (capacities .entry))) car) (carTold (r .answer)) (trainTold (r .train))
             × EnterOrder
             ⌝ }
     {
@@ -102,7 +96,7 @@ impl Train {
         let sums = self.sums;
         let held = self.held;
         let mut numbers = self.numbers;
-        let entered = enter_on(
+        let entered = entering::enter_on(
             Tally { sums, held },
             &mut numbers,
             d,
@@ -119,63 +113,5 @@ impl Train {
             numbers,
         };
         Step { answer, train }
-    }
-}
-
-// 9 to 11 for a car of this number, in a train whose sums are sound; 0 where none applies.
-fn place_refusal(held: u32, numbers: &[u32; MOST_CARS], number: u32) -> u32
-    ensures { λ r. ⌜ r ≡ firstNumber (placeTests held (now (numbers .entry)) number) ⌝ }
-{
-    if MOST_CARS <= held as usize {
-        return 9;
-    }
-    let by_number = working::number_refusal(number);
-    if by_number != 0 {
-        return by_number;
-    }
-    if base::holds(numbers, held as usize, number) {
-        return 11;
-    }
-    0
-}
-
-// The same as `enter`, for a caller with many cars: the numbers lie in an array that is lent, 7 and 8 do not turn the tables away, and
-// the train is known to be sound.
-pub fn enter_on(
-    tally: Tally,
-    numbers: &mut [u32; MOST_CARS],
-    d: Directory,
-    levels: &[u32; PLACES],
-    capacities: &[u32; PLACES],
-    car: Car,
-) -> Entered
-    requires { ⌜ (length (now numbers) ≡ mostCars) × Sound (tally .sums) × Good d (now levels) (now capacities) ⌝ }
-    ensures { λ r. ⌜
-        (carTold (r .answer) ≡ enterAnswer (tablesOf d (now (levels .entry)) (now (capacities .entry))) (lentTrain tally (now (numbers .entry))) car)
-        × (lentTrain (r .tally) (now (numbers .exit)) ≡ enterTrain (tablesOf d (now (levels .entry)) (now (capacities .entry))) (lentTrain tally (now (numbers .entry))) car)
-        ⌝ }
-{
-    let number = car.number;
-    let held = tally.held;
-    let refusal = place_refusal(held, numbers, number);
-    if refusal != 0 {
-        return Entered {
-            answer: CarAnswer::Refused(refusal),
-            tally,
-        };
-    }
-    let grade = car.grade;
-    let answer = working::work_on(d, levels, capacities, car);
-    let before = tally.sums;
-    let sums = summing::with_answer(before, grade, answer);
-    let place = held as usize;
-    numbers[place] = number;
-    let next = Tally {
-        sums,
-        held: held + 1,
-    };
-    Entered {
-        answer,
-        tally: next,
     }
 }

@@ -10,10 +10,9 @@ use Rattle.table.specs.Table.{Table}
 use Rattle.table.specs.Layout.{tablesOf}
 use Rattle.holding.specs.Layout.{carsOf}
 use Rattle.car.specs.declared.Car.{Car}
-use Rattle.train.specs.declared.Train.{Train}
-use Rattle.train.specs.Train.{enterAnswer, enterTrain}
-use Rattle.train.specs.Inner.{lentTrain}
-use Rattle.train.proofs.Book.{reached-size, reached-sound}
+use Rattle.consist.specs.Train.{Train, enterAnswer, enterTrain}
+use Rattle.entering.specs.Lent.{lentTrain}
+use Rattle.consist.proofs.Book.{reached-size, reached-sound}
 use Rattle.car.specs.Car.{carOf}
 use Rattle.answers.specs.Listing.{answerLine}
 use Rattle.listing.proofs.Run.{sheetText, sheet-fits, Written, begun, car-room, turn, totals-ready, ended}
@@ -63,7 +62,8 @@ loop-holds : tie.Need-loop-holds Inv-loop μ-loop
 loop-holds c =
     let m = c .before .before in
     let s = m .before .before in
-    rw (m .empty .ensures .0) (begun (all s) (now (s .args .fields)) (s .args .cars) (now (s .args .out)) (s .pre .each))
+    let e = m .empty .ensures .0 in
+    rw (ap (λ (t : Train). t .sums) e, ap (λ (t : Train). t .numbers) e) (begun (all s) (now (s .args .fields)) (s .args .cars) (now (s .args .out)) (s .pre .each))
 
 car-at-requires : tie.Need-car-at-requires Inv-loop μ-loop
 car-at-requires c κs = let s = began (c .before) in omega (arith, s .pre .sixty)

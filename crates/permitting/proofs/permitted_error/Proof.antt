@@ -11,7 +11,7 @@ use Rattle.car.specs.declared.Car.{Car}
 use Rattle.car.specs.declared.Figures.{Figures}
 use Rattle.car.specs.declared.CarAnswer.the-variants.{Accepted, Refused}
 use Rattle.car.specs.Car.{measured, figuresOf, aloneTests, aloneAnswer, carTold}
-use Rattle.train.specs.Demand3.{Close, InOrder}
+use Rattle.consist.specs.Demand3.{Close, InOrder}
 use Rattle.accuracy.specs.declared.Errors.{Errors}
 use Rattle.accuracy.specs.Permitted.{PermittedAnswer, OnlyAnswer, permittedTold}
 use Rattle.accuracy.specs.Shown.{ShownRight}

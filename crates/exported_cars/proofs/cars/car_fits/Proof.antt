@@ -1,6 +1,6 @@
 -- `exported_cars::car_fits` meets its contract: each return follows from the tests before it.
 use Rattle.base.proofs.Tests.{tests}
-use Rattle.exported_cars.specs.Layout.{carSized}
+use Rattle.exported_cars.specs.Lengths.{carSized}
 use borrow.Author.Needs.{needs}
 use Rattle.exported_cars.proofs.cars.car_fits.Statement.{statement}
 use Rattle.exported_cars.proofs.cars.car_fits.Tie as tie

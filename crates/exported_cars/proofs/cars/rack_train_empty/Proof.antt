@@ -3,9 +3,9 @@ use mathlib.Core.Path.{ap, _∙_}
 use borrow.Author.Tests.{eq-eqb, ne-eqb}
 use borrow.Author.Needs.{needs}
 use Rattle.base.specs.Answer.{figures}
-use Rattle.train.specs.Train.{emptyTrain}
+use Rattle.consist.specs.Train.{emptyTrain}
 use Rattle.marshalling.specs.Handed.{figuresLeft}
-use Rattle.exported_cars.specs.Layout.{trainNumbers}
+use Rattle.trainslice.specs.Layout.{trainNumbers}
 use Rattle.marshalling.proofs.Handed.{handed, handed-into, right-sized, wrong-sized}
 use Rattle.exported_cars.proofs.cars.rack_train_empty.Statement.{statement}
 use Rattle.exported_cars.proofs.cars.rack_train_empty.Tie as tie

@@ -9,14 +9,14 @@ use borrow.Author.Needs.{needs}
 use denote.Ref.{now}
 use Rattle.table.specs.Table.{Table}
 use Rattle.car.specs.declared.Car.{Car}
-use Rattle.train.specs.declared.Train.{Train}
-use Rattle.train.specs.Train.{enterAnswer, enterTrain}
+use Rattle.consist.specs.Train.{Train, enterAnswer, enterTrain}
+use Rattle.consist.proofs.Entering.{entered-four}
 use Rattle.marshalling.specs.Handed.{figuresLeft}
-use Rattle.exported_cars.specs.Layout.{half, trainNumbers}
+use Rattle.trainslice.specs.Layout.{half, trainNumbers}
 use Rattle.marshalling.proofs.Handed.{handed, handed-as, right-sized, wrong-sized}
 use Rattle.marshalling.proofs.Lengths.{tables-copied}
-use Rattle.exported_cars.proofs.Lengths.{CarRight, car-right}
-use Rattle.exported_cars.proofs.TrainSlice.{train-handed, train-kept, entered-four, train-wrong, train-sized}
+use Rattle.exported_cars.proofs.Lengths.{CarRight, car-right, train-wrong, train-sized}
+use Rattle.trainslice.proofs.Slice.{train-handed, train-kept}
 use Rattle.exported_cars.proofs.cars.rack_train_enter.Statement.{statement}
 use Rattle.exported_cars.proofs.cars.rack_train_enter.Tie as tie
 

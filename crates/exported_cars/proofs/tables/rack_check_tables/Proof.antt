@@ -7,7 +7,7 @@ use Rattle.base.specs.Answer.{first}
 use Rattle.table.specs.Table.{tablesTests}
 use Rattle.table.specs.Layout.{tablesOf}
 use Rattle.marshalling.specs.Handed.{numberHanded}
-use Rattle.exported_cars.specs.Layout.{tablesAnswer}
+use Rattle.exported_cars.specs.Lengths.{tablesAnswer}
 use Rattle.marshalling.proofs.Handed.{number-answered, right-sized, wrong-sized}
 use Rattle.marshalling.proofs.Lengths.{TablesRight, tables-right, tables-copied}
 use Rattle.exported_cars.proofs.tables.rack_check_tables.Statement.{statement}

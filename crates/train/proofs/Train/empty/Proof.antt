@@ -1,7 +1,7 @@
 -- `Train::empty` meets its contract, and with it the book of every list of cars.
 use mathlib.Core.Path.{refl}
-use Rattle.train.proofs.Book.{reconciled}
-use Rattle.train.proofs.AgainstExamples.{book-example, grades-example}
+use Rattle.consist.proofs.Book.{reconciled}
+use Rattle.consist.proofs.AgainstExamples.{book-example, grades-example}
 use Rattle.train.proofs.Train.empty.Statement.{statement}
 use Rattle.train.proofs.Train.empty.Tie as tie
 

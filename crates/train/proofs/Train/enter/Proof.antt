@@ -12,22 +12,25 @@ use Rattle.table.specs.Inner.{Good}
 use Rattle.table.proofs.Arrays.{good-tables}
 use Rattle.car.specs.declared.Car.{Car}
 use Rattle.car.specs.Car.{measured, carTold}
-use Rattle.train.specs.declared.Train.{Train}
-use Rattle.train.specs.Train.{enterAnswer, enterTrain}
-use Rattle.train.specs.Book as book
-use Rattle.train.specs.Demand3.{Close, InOrder, Continues, entered}
-use Rattle.train.proofs.Taken.{close}
-use Rattle.train.proofs.Order.{in-order}
-use Rattle.train.specs.Examples.{EnterOrder}
-use Rattle.train.specs.Inner.{lentTrain}
-use Rattle.train.proofs.Book.{continues}
-use Rattle.train.proofs.AgainstExamples.{enter-order}
-use Rattle.train.proofs.Entering.{not-sound, tables-away, unsound-away}
+use Rattle.consist.specs.Train.{Train, enterAnswer, enterTrain}
+use Rattle.consist.specs.Book as book
+use Rattle.consist.specs.Demand3.{Close, InOrder, Continues, entered}
+use Rattle.consist.proofs.Taken.{close}
+use Rattle.consist.proofs.Order.{in-order}
+use Rattle.consist.specs.Examples.{EnterOrder}
+use Rattle.entering.specs.Lent.{lentTrain}
+use Rattle.consist.proofs.Book.{continues}
+use Rattle.consist.proofs.AgainstExamples.{enter-order}
+use Rattle.consist.proofs.Entering.{not-sound, tables-away, unsound-away}
+use Rattle.train.specs.Told.{trainTold}
 use Rattle.train.proofs.Train.enter.Statement.{statement}
 use Rattle.train.proofs.Train.enter.Tie as tie
 
 all : tie.Start → List Table
 all s = tablesOf (s .args .d) (now (s .args .levels)) (now (s .args .capacities))
+
+abbrev told : tie.Start → Train
+told s = trainTold (s .args .self)
 
 -- an answer and a train that are the definition's have all that is promised of them
 whole : (ts : List Table) (t : Train) (c : Car) (a : Answer) (next : Train) → (a ≡ enterAnswer ts t c) × (next ≡ enterTrain ts t c)
@@ -49,8 +52,8 @@ returns : tie.Need-returns
 unfolding all
 returns c =
     let s = c .before .before in
-    whole (all s) (s .args .self) (s .args .car) (refusal (c .before .check-tables .result)) (s .args .self)
-    (tables-away (all s) (s .args .self) (s .args .car) (c .before .check-tables .ensures) (c .if1 .taken))
+    whole (all s) (told s) (s .args .car) (refusal (c .before .check-tables .result)) (told s)
+    (tables-away (all s) (told s) (s .args .car) (c .before .check-tables .ensures) (c .if1 .taken))
 
 is-unsound-requires : tie.Need-is-unsound-requires
 is-unsound-requires c κs = search needs
@@ -61,8 +64,8 @@ returns-2 c =
     let u = c .before in
     let l = u .before in
     let s = l .before .before in
-    whole (all s) (s .args .self) (s .args .car) (refusal 9) (s .args .self)
-    (unsound-away (all s) (s .args .self) (s .args .car) (good l .accepted) (sym (u .is-unsound .ensures) ∙ c .if2 .taken))
+    whole (all s) (told s) (s .args .car) (refusal 9) (told s)
+    (unsound-away (all s) (told s) (s .args .car) (good l .accepted) (sym (u .is-unsound .ensures) ∙ c .if2 .taken))
 
 enter-on-requires : tie.Need-enter-on-requires
 enter-on-requires c κs =
@@ -70,14 +73,14 @@ enter-on-requires c κs =
     let u = p .before in
     let l = u .before in
     let s = l .before .before in
-    (sixty s, not-sound (s .args .self) (sym (u .is-unsound .ensures) ∙ p .if2 .left), good l)
+    (sixty s, not-sound (told s) (sym (u .is-unsound .ensures) ∙ p .if2 .left), good l)
 
 returns-3 : tie.Need-returns-3
 unfolding all
 returns-3 c =
     let e = c .before .before in
     let s = e .before .before .before .before .before .before .before .before in
-    whole (all s) (s .args .self) (s .args .car) (carTold (e .enter-on .result .answer)) (lentTrain (e .enter-on .result .tally) (e .enter-on .last .1 .0)) (e .enter-on .ensures)
+    whole (all s) (told s) (s .args .car) (carTold (e .enter-on .result .answer)) (lentTrain (e .enter-on .result .tally) (e .enter-on .last .1 .0)) (e .enter-on .ensures)
 
 pub enter-spec : {M : Type 1} → statement M
 enter-spec =

@@ -5,7 +5,7 @@ use borrow.Author.Tests.{le-ltb}
 use Rattle.base.specs.Limits.{mostCars}
 use Rattle.base.proofs.Tests.{decide}
 use Rattle.summing.specs.Sums.{mostInTrain}
-use Rattle.train.specs.Train.{unsound}
+use Rattle.consist.specs.Train.{unsound}
 use borrow.Author.Needs.{needs}
 use Rattle.train.proofs.Train.is_unsound.Statement.{statement}
 use Rattle.train.proofs.Train.is_unsound.Tie as tie

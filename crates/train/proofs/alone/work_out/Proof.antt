@@ -14,17 +14,17 @@ use Rattle.table.proofs.Arrays.{good-tables}
 use Rattle.car.specs.declared.Car.{Car}
 use Rattle.car.specs.Car.{measured, aloneAnswer, carTold}
 use Rattle.car.proofs.Answers.{alone-tables, alone-number, alone-own}
-use Rattle.train.specs.Demand3.{Close, InOrder, alone}
+use Rattle.consist.specs.Demand3.{Close, InOrder, alone}
 use Rattle.car.specs.Card.{AllRight}
 use Rattle.car.specs.OperationsCard.{OperationsRight}
 use Rattle.car.specs.ExactCard.{ExactRight}
 use Rattle.car.proofs.Card.{all-right}
 use Rattle.car.proofs.OperationsCard.{operations-right}
 use Rattle.car.proofs.ExactCard.{exact-right}
-use Rattle.train.specs.Examples.{OrderExample}
-use Rattle.train.proofs.AgainstExamples.{order-example}
-use Rattle.train.proofs.Taken.{close}
-use Rattle.train.proofs.Order.{in-order}
+use Rattle.consist.specs.Examples.{OrderExample}
+use Rattle.consist.proofs.AgainstExamples.{order-example}
+use Rattle.consist.proofs.Taken.{close}
+use Rattle.consist.proofs.Order.{in-order}
 use Rattle.train.proofs.alone.work_out.Statement.{statement}
 use Rattle.train.proofs.alone.work_out.Tie as tie
 

@@ -1,0 +1,131 @@
+-- Laws of entering a car: when a train takes one more, and what the car's own answer makes of the train.
+use Prim.Native.Nat.{ℕ, suc, _+_, _<_}
+use mathlib.Core.Path.{_≡_, refl, ap, sym, _∙_}
+use mathlib.Core.Bool.{true, false, not, _||_}
+use mathlib.Core.List.{List, [], _∷_}
+use lib.Dec.{ltb}
+use lib.ListN.{length}
+use borrow.Author.Tests.{le-ltb, leb-false, ltb-false, not-false}
+use Rattle.base.specs.Limits.{mostCars, gradeCount}
+use Rattle.base.specs.Answer.{Verdict, accepts, refuses, first, firstNumber, refusal, answer}
+use Rattle.base.proofs.Choice.{never, neither}
+use Rattle.base.proofs.Numbers.{inside}
+use Rattle.base.proofs.Answer.{not-applied, passed, by-number, refuses-append, refused-append, accepted-append, answer-figures}
+use Rattle.table.specs.Table.{Table, tablesTests, tablesVerdict}
+use Rattle.car.specs.declared.Car.{Car}
+use Rattle.car.specs.declared.CarAnswer.{CarAnswer}
+use Rattle.car.specs.declared.CarAnswer.the-variants.{Accepted, Refused}
+use Rattle.car.specs.Measured.{gross, net, mass, sixFigures}
+use Rattle.car.specs.Car.{measured, carTests, figuresOf, ownAnswer, carTold}
+use Rattle.car.proofs.Accepted.{passed-car, grade-known}
+use Rattle.summing.specs.declared.Totals.{Totals}
+use Rattle.summing.specs.Sums.{Shown, mostInTrain, together, sameTotals, gradesWith}
+use Rattle.consist.specs.Train.{Train, unsound, full, trainTests, admissionTests, enterTests, enterAnswer, carShown, afterBy, enterTrain}
+use Rattle.summing.specs.Inner.{Sound, Graded}
+use Rattle.consist.specs.Inner.{placeTests, withAnswer}
+use Rattle.summing.proofs.Adding.{same-totals, totals-same}
+
+-- A train is sound where 9 does not apply for its limits or sums.
+
+pub sound-not : (t : Train) → Sound (t .sums) → unsound t ≡ false
+unfolding unsound
+sound-not t h =
+    simp
+    (le-ltb mostCars (t .sums .all .accepted) (h .low .few), le-ltb mostInTrain (t .sums .all .gross) (h .low .gross-low), le-ltb mostInTrain (t .sums .all .net) (h .low .net-low), totals-same (h .split))
+
+pub not-sound : (t : Train) → unsound t ≡ false → Sound (t .sums)
+unfolding unsound
+not-sound t e =
+    let all = t .sums .all in
+    let p = neither (ltb mostCars (all .accepted) || ltb mostInTrain (all .gross) || ltb mostInTrain (all .net)) (not (sameTotals all (together (t .sums .grades)))) e in
+    let q = neither (ltb mostCars (all .accepted) || ltb mostInTrain (all .gross)) (ltb mostInTrain (all .net)) (p .0) in
+    let r = neither (ltb mostCars (all .accepted)) (ltb mostInTrain (all .gross)) (q .0) in
+    record {
+      low = record {
+        few = ltb-false mostCars (all .accepted) (r .0);
+        gross-low = ltb-false mostInTrain (all .gross) (r .1);
+        net-low = ltb-false mostInTrain (all .net) (q .1);
+      };
+      split = same-totals (not-false (sameTotals all (together (t .sums .grades))) (p .1));
+    }
+
+-- then 9 is for the numbers that it holds
+place-tests : (t : Train) (number : ℕ) → Sound (t .sums) → trainTests t number ≡ placeTests (t .held) (t .numbers) number
+unfolding full
+place-tests t number h = simp (sound-not t h)
+
+-- A car that 7 to 11 turn away, and one that they do not.
+
+module _ (ts : List Table) (t : Train) (c : Car) where
+  admission-refused : {k : ℕ} → first (admissionTests ts t c) ≡ refuses k → (refusal k ≡ enterAnswer ts t c) × (t ≡ enterTrain ts t c)
+  unfolding enterTests enterAnswer enterTrain
+  admission-refused h = (simp (refuses-append (carTests ts c) (admissionTests ts t c) h), simp h)
+
+  -- turned away by its tables
+  pub tables-away : {k : ℕ} → k ≡ firstNumber (tablesTests ts) → (k ≡ 0 → ⊥) → (refusal k ≡ enterAnswer ts t c) × (t ≡ enterTrain ts t c)
+  unfolding admissionTests
+  tables-away e n = admission-refused (refused-append (trainTests t (c .number)) (tablesTests ts) e n)
+
+  -- on tables that are not refused
+  module _ (good : tablesVerdict ts ≡ accepts) where
+    by-train : first (admissionTests ts t c) ≡ first (trainTests t (c .number))
+    unfolding admissionTests
+    by-train = accepted-append (trainTests t (c .number)) (tablesTests ts) good
+
+    -- turned away by 9, for its limits or sums
+    pub unsound-away : unsound t ≡ true → (refusal 9 ≡ enterAnswer ts t c) × (t ≡ enterTrain ts t c)
+    unfolding full
+    unsound-away e = admission-refused (by-train ∙ simp e)
+
+    -- turned away by 9 to 11
+    away : {k : ℕ} → k ≡ firstNumber (trainTests t (c .number)) → (k ≡ 0 → ⊥) → (refusal k ≡ enterAnswer ts t c) × (t ≡ enterTrain ts t c)
+    away e n = admission-refused (by-train ∙ by-number (first (trainTests t (c .number))) e n)
+
+  -- on such tables, in a sound train
+  module _ (good : tablesVerdict ts ≡ accepts) (sound : Sound (t .sums)) where
+    pub place-away : {k : ℕ} → k ≡ firstNumber (placeTests (t .held) (t .numbers) (c .number)) → (k ≡ 0 → ⊥) → (refusal k ≡ enterAnswer ts t c) × (t ≡ enterTrain ts t c)
+    place-away e n = away good (e ∙ sym (ap firstNumber (place-tests t (c .number) sound))) n
+
+    -- past 9 to 11, the car's own answer
+    none-applies : {k : ℕ} → k ≡ firstNumber (placeTests (t .held) (t .numbers) (c .number)) → k ≡ 0 → first (placeTests (t .held) (t .numbers) (c .number)) ≡ accepts
+    none-applies e z = passed (placeTests (t .held) (t .numbers) (c .number)) refl e z
+
+    pub place-left : {k : ℕ} → k ≡ firstNumber (placeTests (t .held) (t .numbers) (c .number)) → k ≡ 0 → t .held < mostCars
+    place-left e z = leb-false mostCars (t .held) (not-applied 9 (placeTests (t .held) (t .numbers) (c .number)) (none-applies e z))
+
+    pub taken-in : (a : CarAnswer) {k : ℕ} → k ≡ firstNumber (placeTests (t .held) (t .numbers) (c .number)) → k ≡ 0 → carTold a ≡ ownAnswer ts c
+        → (carTold a ≡ enterAnswer ts t c) × (withAnswer t (c .number) (c .grade) a ≡ enterTrain ts t c)
+    unfolding ownAnswer enterTests enterAnswer enterTrain sixFigures mass
+    taken-in a z n e =
+        let h : first (admissionTests ts t c) ≡ accepts = by-train good ∙ ap first (place-tests t (c .number) sound) ∙ none-applies z n in
+        (simp (accepted-append (carTests ts c) (admissionTests ts t c) h) e, simp h (by-answer a (first (carTests ts c)) e))
+      where
+        by-answer : (a : CarAnswer) (v : Verdict) → carTold a ≡ answer v (figuresOf ts c) → withAnswer t (c .number) (c .grade) a ≡ afterBy accepts v ts t c
+        by-answer (Accepted f) accepts e =
+            let g : f .gross ≡ mass gross ts (measured c) = cc in
+            let n : f .net ≡ mass net ts (measured c) = cc in
+            simp (g, n)
+        by-answer (Accepted f) (refuses k) e = never (cc)
+        by-answer (Refused n) accepts e = never (cc)
+        by-answer (Refused n) (refuses k) e = refl
+
+-- a car is accepted only with a grade that there is
+pub graded : (ts : List Table) (c : Car) (a : CarAnswer) → tablesVerdict ts ≡ accepts → carTold a ≡ ownAnswer ts c → Graded (c .grade) a
+unfolding ownAnswer
+graded ts c (Refused n) good e = tt
+graded ts c (Accepted f) good e =
+    inside 1 gradeCount (c .grade) (grade-known ts (measured c) (passed-car c good (answer-figures (first (carTests ts c)) e .0) .early))
+
+-- a car entered leaves the grades four
+with-length : (g : ℕ) (s : Shown) (ts : List Totals) → length (gradesWith g s ts) ≡ length ts
+with-length g s [] = refl
+with-length g s (t ∷ ts) = ap suc (with-length (g + 1) s ts)
+
+pub entered-four : (ts : List Table) (t : Train) (c : Car) → length (t .sums .grades) ≡ gradeCount → length (enterTrain ts t c .sums .grades) ≡ gradeCount
+unfolding enterTrain
+entered-four ts t c e = by-verdicts (first (admissionTests ts t c)) (first (carTests ts c))
+  where
+    by-verdicts : (admission own : Verdict) → length (afterBy admission own ts t c .sums .grades) ≡ gradeCount
+    by-verdicts (refuses k) own = e
+    by-verdicts accepts (refuses k) = e
+    by-verdicts accepts accepts = with-length 1 (carShown ts c) (t .sums .grades) ∙ e

@@ -1,0 +1,5 @@
+pub mod Train
+pub mod Book
+pub mod Demand3
+pub mod Examples
+pub mod Inner
