@@ -1,10 +1,12 @@
 -- Figures of the rack card on mean level and tape allowance, each by computation.
+use Prim.Native.Nat.{ℕ}
 use mathlib.Core.Path.{_≡_, refl}
 use mathlib.Core.List.{[], _∷_}
 use Rattle.base.specs.Rounding.{rounded}
-use Rattle.base.specs.Answer.{figures, refusal}
+use Rattle.base.specs.Answer.{Answer, figures, refusal}
 use Rattle.dip.specs.Level.{meanLevel, meanLevelAnswer}
 use Rattle.dip.specs.Tape.{allowanceAnswer}
+use Rattle.dip.specs.Formula.{formulaAnswer}
 
 -- Levels in mm. The number of readings, the readings, and the answer.
 
@@ -55,24 +57,31 @@ pub level-nought : meanLevelAnswer 2 (0 ∷ 0 ∷ 0 ∷ 0 ∷ []) ≡ refusal 16
 unfolding meanLevelAnswer meanLevel rounded
 level-nought = refl
 
--- Levels in mm and tape allowances in 0.01 mm.
+-- Levels in mm and tape allowances in 0.01 mm, by the list and by the formula.
 
-pub first-metre : allowanceAnswer 1_000 ≡ figures (30 ∷ [])
-unfolding allowanceAnswer
-first-metre = refl
+abbrev Both : ℕ → Answer → Type 0
+Both level a = (allowanceAnswer level ≡ a) × (formulaAnswer level ≡ a)
 
-pub second-metre-begun : allowanceAnswer 1_001 ≡ figures (45 ∷ [])
-unfolding allowanceAnswer
-second-metre-begun = refl
+pub first-metre : Both 1 (figures (30 ∷ [])) × Both 1_000 (figures (30 ∷ []))
+unfolding allowanceAnswer formulaAnswer
+first-metre = ((refl, refl), (refl, refl))
 
-pub last-level : allowanceAnswer 3_600 ≡ figures (75 ∷ [])
-unfolding allowanceAnswer
-last-level = refl
+pub second-metre-begun : Both 1_001 (figures (45 ∷ [])) × Both 2_000 (figures (45 ∷ []))
+unfolding allowanceAnswer formulaAnswer
+second-metre-begun = ((refl, refl), (refl, refl))
 
-pub no-level : allowanceAnswer 0 ≡ refusal 16
-unfolding allowanceAnswer
-no-level = refl
+pub third-metre-begun : Both 2_001 (figures (60 ∷ [])) × Both 3_000 (figures (60 ∷ []))
+unfolding allowanceAnswer formulaAnswer
+third-metre-begun = ((refl, refl), (refl, refl))
 
-pub above-last-level : allowanceAnswer 3_601 ≡ refusal 16
-unfolding allowanceAnswer
-above-last-level = refl
+pub fourth-metre-begun : Both 3_001 (figures (75 ∷ [])) × Both 3_600 (figures (75 ∷ []))
+unfolding allowanceAnswer formulaAnswer
+fourth-metre-begun = ((refl, refl), (refl, refl))
+
+pub no-level : Both 0 (refusal 16)
+unfolding allowanceAnswer formulaAnswer
+no-level = (refl, refl)
+
+pub above-last-level : Both 3_601 (refusal 16)
+unfolding allowanceAnswer formulaAnswer
+above-last-level = (refl, refl)

@@ -1,3 +1,4 @@
 pub mod Sorting
 pub mod Redip
 pub mod AgainstCard
+pub mod Formula

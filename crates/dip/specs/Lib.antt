@@ -1,3 +1,4 @@
 pub mod Level
 pub mod Redip
 pub mod Tape
+pub mod Formula

@@ -1,5 +1,6 @@
 -- The tape allowance of document 01 (002, 14.1.1), with refusal 16.
 use Prim.Native.Nat.{ℕ, _-_, _*_, _/_}
+use mathlib.Core.Bool.{Bool}
 use mathlib.Core.List.{List, [], _∷_}
 use lib.ListN.{getD}
 use Rattle.base.specs.Limits.{highestLevel, levelUnits}
@@ -8,16 +9,24 @@ use Rattle.base.specs.Answer.{refuseIf, first, Answer, figures, refusal, answer
 use Rattle.dip.specs.declared.Allowance.{Allowance}
 use Rattle.dip.specs.declared.Allowance.the-variants.{HundredthsOfMillimetre, Refused}
 
+-- a metre of 1,000 mm, in units of a mean level
+abbrev pub metre : ℕ
+metre = levelUnits * 1_000
+
 -- 0.01 mm, for 1, 2, 3, 4 whole and part metres
 abbrev pub allowances : List ℕ
 allowances = 30 ∷ 45 ∷ 60 ∷ 75 ∷ []
 
--- for a level of 1 to 3,600 mm, in units of a mean level, by the metres of 1,000 mm that it has begun
+-- the list's number for a level, by the metres that it has begun
+abbrev pub listed : ℕ → ℕ
+listed level = getD allowances ((level - 1) / metre) 0
+
+-- 16: a level, in units of a mean level, outside 1 to 3,600 mm
+abbrev pub offTape : ℕ → Bool
+offTape level = outside levelUnits (levelUnits * highestLevel) level
+
 unfoldable pub allowanceAnswer : ℕ → Answer
-allowanceAnswer level =
-    answer
-    (first (refuseIf 16 (outside levelUnits (levelUnits * highestLevel) level) ∷ []))
-    (getD allowances ((level - 1) / (levelUnits * 1_000)) 0 ∷ [])
+allowanceAnswer level = answer (first (refuseIf 16 (offTape level) ∷ [])) (listed level ∷ [])
 
 -- what the code's answer says
 abbrev pub allowanceTold : Allowance → Answer

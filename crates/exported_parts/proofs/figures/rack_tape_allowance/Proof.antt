@@ -19,12 +19,12 @@ enum-known-number c = search needs
 returns : tie.Need-returns
 returns c =
     let m = c .before in
-    handed figureLeft _ (ap allowanceTold (sym (m .figure .given .1)) ∙ m .before .before .tape-allowance .ensures)
+    handed figureLeft _ (ap allowanceTold (sym (m .figure .given .1)) ∙ m .before .before .tape-allowance .ensures .0)
 
 returns-2 : tie.Need-returns-2
 returns-2 c =
     let m = c .before in
-    handed figureLeft _ (ap allowanceTold (sym (m .number .given .1)) ∙ m .before .before .tape-allowance .ensures)
+    handed figureLeft _ (ap allowanceTold (sym (m .number .given .1)) ∙ m .before .before .tape-allowance .ensures .0)
 
 pub rack-tape-allowance-spec : {M : Type 1} → statement M
 rack-tape-allowance-spec =
