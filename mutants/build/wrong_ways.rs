@@ -725,6 +725,52 @@ pub const EDITS: &[Edit] = &[
         ],
     },
     Edit {
+        module: "level",
+        old: "if «!(1..=HIGHEST).contains(&level)» {",
+        new: &[
+            ("0 answered", "if level == 0 { return Ok(30); } level > HIGHEST"),
+            ("16 above 4,000", "!(1..=4_000).contains(&level)"),
+            ("four metres at most", "if level > HIGHEST { return Ok(75); } level == 0"),
+            ("a fifth metre", "if level > HIGHEST { return Ok(15 + 15 * metres(level)); } level == 0"),
+            ("16 as an allowance", "if !(1..=HIGHEST).contains(&level) { return Ok(16); } false"),
+            ("level in 16 bits", "if level > 0xffff { return tape_allowance(level & 0xffff); } \
+              !(1..=HIGHEST).contains(&level)"),
+            ("level in 31 bits", "if level > 0x7fff_ffff \
+              { return tape_allowance(level & 0x7fff_ffff); } !(1..=HIGHEST).contains(&level)"),
+            ("level without its sign", "if level > u32::MAX - HIGHEST \
+              { return tape_allowance(level.wrapping_neg()); } !(1..=HIGHEST).contains(&level)"),
+        ],
+    },
+    Edit {
+        module: "level",
+        old: "contains(&level) {\n        «return Err(Refusal::Level);»",
+        new: &[("17 in place of 16", "return Err(Refusal::WaterLevel);")],
+    },
+    Edit {
+        module: "level",
+        old: "Ok(«ALLOWANCES[metres(level) as usize - 1]»)",
+        new: &[
+            ("0.15 for the first metre too", "15 * metres(level)"),
+            ("0.30 for every metre", "30 * metres(level)"),
+            ("L for L - 1", "30 + 15 * metres(level)"),
+            ("0.30 at every level", "30"),
+            ("three metres at most", "ALLOWANCES()[(metres(level) as usize - 1).min(2)]"),
+            ("linear within a metre", "30 + 15 * level.saturating_sub(1_000) / 1_000"),
+            ("cut in floating point", "(100.0 * (0.3 + 0.15 * f64::from(metres(level) - 1))) as u32"),
+        ],
+    },
+    Edit {
+        module: "level",
+        old: "«level.div_ceil(1_000)»",
+        new: &[
+            ("whole metres", "(level / 1_000).max(1)"),
+            ("whole metres and one", "level / 1_000 + 1"),
+            ("nearest metre", "((level + 500) / 1_000).max(1)"),
+            ("second metre as the third", "(level.div_ceil(1_000) + u32::from(level > 1_000)).min(4)"),
+            ("thousandths in single floating point", "(level as f32 * 0.001).ceil() as u32"),
+        ],
+    },
+    Edit {
         module: "car",
         old: "ensure(«level <= table.last_level()»",
         new: &[

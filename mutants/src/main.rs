@@ -7,6 +7,7 @@ mod hooks;
 mod laboratory;
 mod mutants;
 mod permitted;
+mod tape;
 mod trial;
 /// The reference's modules, with points.
 #[allow(clippy::all, unused, unused_parens, unreachable_code)]
@@ -121,12 +122,15 @@ fn kit(first: usize) -> Kit {
     let cases = reference::conformance::cases();
     let cars = vectors::all::<vectors::permitted::Vector>();
     let reports = vectors::all::<vectors::laboratory::Vector>();
-    let (sheets, vectors) = (cases.len().min(first), cars.len() + reports.len());
+    let levels = vectors::all::<vectors::tape::Vector>();
+    let sheets = cases.len().min(first);
+    let vectors = cars.len() + reports.len() + levels.len();
     let cases = cases.into_iter().take(first);
     let trials = cases
         .map(|case| Trial::new(case.name.to_string(), case.sheet))
         .chain(cars.into_iter().map(Trial::of_vector))
         .chain(laboratory::of_vectors(&reports).into_iter().map(Trial::of_reports))
+        .chain(levels.into_iter().map(|vector| Trial::of_level(vector.level)))
         .collect();
     Kit { trials, sheets, vectors }
 }
@@ -138,6 +142,7 @@ fn generated(sheets: u64) -> Vec<Trial> {
         .chain(grid::every_density())
         .chain(permitted::drawn(sheets).map(Trial::of_vector))
         .chain(laboratory::drawn(sheets / 10).map(Trial::of_reports))
+        .chain(tape::drawn(sheets).map(Trial::of_level))
         .collect()
 }
 

@@ -29,6 +29,7 @@ fn keys(point: &Point) -> &'static [usize] {
         ("table", "add") => &[hooks::TABLE, hooks::ROW],
         ("table", "find" | "new") => &[],
         ("table", _) => &[hooks::TABLE],
+        ("level", "tape_allowance" | "metres") => &[],
         ("level", _) => &[hooks::GIVEN],
         ("car", _) => &[hooks::GRADE, hooks::STICK, hooks::TABLE, hooks::GIVEN],
         ("thermal", "exponential") => &[hooks::AT, hooks::POWER, hooks::STICK, hooks::GRADE],

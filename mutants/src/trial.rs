@@ -1,4 +1,4 @@
-//! Trying a wrong program on sheets, on cars with given errors and on laboratories' reports.
+//! Trying a wrong program on sheets, on cars with given errors, on laboratories' reports and on levels.
 
 use std::panic::{self, AssertUnwindSafe};
 
@@ -7,13 +7,15 @@ use reference::conformance::vectors::permitted::Vector;
 use crate::hooks;
 use crate::laboratory::Reports;
 use crate::mutants::{contexts_of, Mutant};
-use crate::{permitted, turned, POINTS};
+use crate::{permitted, tape, turned, POINTS};
 
 /// What a program is asked.
 enum Question {
     Sheet(Vec<u8>),
     PermittedError(Vector),
     Density(Reports),
+    /// The tape allowance at a level in mm.
+    Allowance(u32),
 }
 
 impl Question {
@@ -23,6 +25,7 @@ impl Question {
             Self::Sheet(sheet) => reference::listing::of(sheet),
             Self::PermittedError(vector) => permitted::right(vector),
             Self::Density(reports) => reports.right(),
+            Self::Allowance(level) => tape::right(*level),
         }
     }
 
@@ -32,6 +35,7 @@ impl Question {
             Self::Sheet(sheet) => turned::listing::of(sheet),
             Self::PermittedError(vector) => permitted::turned(vector),
             Self::Density(reports) => reports.turned(),
+            Self::Allowance(level) => tape::turned(*level),
         }
     }
 }
@@ -59,6 +63,11 @@ impl Trial {
     pub fn of_reports(reports: Reports) -> Self {
         let name = format!("reports at {}", reports.temperature);
         Self::of(name, Question::Density(reports))
+    }
+
+    /// A level in mm, and its tape allowance.
+    pub fn of_level(level: u32) -> Self {
+        Self::of(format!("level {level}"), Question::Allowance(level))
     }
 
     /// # Panics

@@ -58,11 +58,15 @@ fn mean_of(readings: &[u32]) -> u32 {
     nearest(sum, readings.len() as u64) as u32
 }
 
-/// The tape allowance at a level, in 0.01 mm.
+/// The tape allowance at a level in mm, in 0.01 mm: refusal 16.
 pub fn tape_allowance(level: u32) -> Result<u32, Refusal> {
     if !(1..=HIGHEST).contains(&level) {
         return Err(Refusal::Level);
     }
-    let metres = level.div_ceil(1_000);
-    Ok(ALLOWANCES[metres as usize - 1])
+    Ok(ALLOWANCES[metres(level) as usize - 1])
+}
+
+/// The number of whole and part metres in a level in mm.
+pub fn metres(level: u32) -> u32 {
+    level.div_ceil(1_000)
 }

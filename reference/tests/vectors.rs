@@ -4,7 +4,9 @@
 use std::collections::HashSet;
 use std::fmt::Debug;
 
-use reference::conformance::vectors::{all, expected, file, laboratory, permitted, read, Written};
+use reference::conformance::vectors::{
+    all, expected, file, laboratory, permitted, read, tape, Written,
+};
 
 /// What holds of every file: the answers, the names, and that it is read as it was written.
 fn hold<V: Written + Debug + PartialEq>(least: usize) {
@@ -34,6 +36,7 @@ fn named_refusal(name: &str) -> Option<u32> {
 fn files() {
     hold::<permitted::Vector>(150);
     hold::<laboratory::Vector>(200);
+    hold::<tape::Vector>(70);
 }
 
 #[test]
@@ -41,6 +44,25 @@ fn names_tell_the_outcome_of_a_report() {
     for vector in all::<laboratory::Vector>() {
         let number = vector.work_out().err().map(|refusal| refusal.number());
         assert_eq!(number, named_refusal(&vector.name), "{}", vector.name);
+    }
+}
+
+#[test]
+fn names_tell_the_outcome_of_a_level() {
+    for vector in all::<tape::Vector>() {
+        let name = &vector.name;
+        let number = vector.work_out().err().map(|refusal| refusal.number());
+        assert!(name.starts_with("parting-") || number == named_refusal(name), "{name}");
+        let metre = name.strip_prefix("metre-").map_or("", |rest| &rest[..1]);
+        assert!(vector.answer().starts_with(metre), "{name}");
+    }
+}
+
+#[test]
+fn both_ends_of_every_metre_are_tried() {
+    let vectors = all::<tape::Vector>();
+    for level in [0, 1, 1_000, 1_001, 2_000, 2_001, 3_000, 3_001, 3_600, 3_601] {
+        assert!(vectors.iter().any(|vector| vector.level == level), "{level}");
     }
 }
 
