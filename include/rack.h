@@ -99,7 +99,8 @@ uint32_t rack_mean_level(uint32_t count,
                          const uint32_t *readings, size_t readings_len,
                          uint32_t *level);
 
-/* The tape allowance at a level, in 0.01 mm. Refusal 16. */
+/* The tape allowance at a level, in 0.01 mm: 30 for the first metre begun, 15 for each further one.
+   Refusal 16 (1 to 3,600). */
 uint32_t rack_tape_allowance(uint32_t level, uint32_t *allowance);
 
 /*

@@ -1,11 +1,13 @@
-//! The library's permitted error and laboratory's density: every line of the files of vectors.
+//! The library's permitted error, laboratory's density and tape allowance: every line of the files of
+//! vectors.
 
 use outside::slices::Slices;
 use outside::{ERRORS, FIELDS, PERMITTED};
-use reference::conformance::vectors::{all, laboratory, permitted, read};
+use reference::conformance::vectors::{all, laboratory, permitted, read, tape};
 
 const PERMITTED_ERROR: &str = include_str!("../../conformance/permitted-error.vectors");
 const LABORATORY_DENSITY: &str = include_str!("../../conformance/laboratory-density.vectors");
+const TAPE_ALLOWANCE: &str = include_str!("../../conformance/tape-allowance.vectors");
 
 /// What a place holds before it is lent: no figure.
 const LENT: u32 = 0xa5a5_a5a5;
@@ -48,6 +50,24 @@ fn expected_density(answer: &str) -> (u32, u32) {
     }
 }
 
+/// The number handed back and what the lent place holds.
+fn tape_allowance(vector: &tape::Vector) -> (u32, u32) {
+    let mut allowance = LENT;
+    let number = outside::tape_allowance(vector.level, &mut allowance);
+    (number, allowance)
+}
+
+/// The same from a line's answer: metres and an allowance, or a dash and a refusal.
+fn expected_allowance(answer: &str) -> (u32, u32) {
+    let (metres, seen) = answer.split_once(" | ").expect("an answer");
+    let seen = seen.parse().expect("a number");
+    if metres == "-" {
+        (seen, LENT)
+    } else {
+        (0, seen)
+    }
+}
+
 #[test]
 fn every_line_of_the_permitted_error() {
     let vectors = read::<permitted::Vector>(PERMITTED_ERROR);
@@ -63,5 +83,14 @@ fn every_line_of_the_laboratory_s_density() {
     assert_eq!(vectors.len(), all::<laboratory::Vector>().len());
     for (vector, answer) in vectors {
         assert_eq!(density_at_15(&vector), expected_density(answer), "{}", vector.name);
+    }
+}
+
+#[test]
+fn every_line_of_the_tape_allowance() {
+    let vectors = read::<tape::Vector>(TAPE_ALLOWANCE);
+    assert_eq!(vectors.len(), all::<tape::Vector>().len());
+    for (vector, answer) in vectors {
+        assert_eq!(tape_allowance(&vector), expected_allowance(answer), "{}", vector.name);
     }
 }

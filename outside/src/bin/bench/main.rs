@@ -1,14 +1,16 @@
 //! Times the proved code beside the reference and beside a program tuned by hand, on the same
-//! sheets, and the permitted error of a car and the density at 15 °C of a report beside the
-//! reference's, in one run of a few seconds.
+//! sheets, and the permitted error of a car, the density at 15 °C of a report and the tape allowance
+//! at a level beside the reference's, in one run of some seconds.
 
 mod laboratory;
 mod permitted;
 mod sheets;
+mod tape;
 mod timing;
 
 fn main() {
     sheets::compare_all();
     permitted::compare_all();
     laboratory::compare_all();
+    tape::compare_all();
 }

@@ -16,9 +16,21 @@ pub fn ends_and(range: std::ops::RangeInclusive<u32>) -> impl Iterator<Item = u3
     ENDS.into_iter().chain(range)
 }
 
-pub fn tape_allowance() -> Tally {
+/// A number out of all, one in two with the low 16 bits of a level up to 4,000 mm.
+fn draw_level(random: &mut Random) -> u32 {
+    let number = random.next() as u32;
+    if random.one_in(2) {
+        number & 0xffff_0000 | random.between(0, 4_000)
+    } else {
+        number
+    }
+}
+
+pub fn tape_allowance(times: u64) -> Tally {
     let mut tally = Tally::new("tape_allowance");
-    for level in ends_and(0..=40_000) {
+    let mut random = Random::new(10);
+    let by_lot = (0..times).map(|_| draw_level(&mut random));
+    for level in ends_and(0..=70_000).chain(by_lot) {
         let mut allowance = LENT;
         let number = outside::tape_allowance(level, &mut allowance);
         tally.compare(level, (number, allowance), handed(level::tape_allowance(level), LENT));

@@ -32,7 +32,7 @@ fn main() -> ExitCode {
         lines::read_line(times).print(),
         lines::write_line(times).print(),
         figures::mean_level(times).print(),
-        figures::tape_allowance().print(),
+        figures::tape_allowance(times).print(),
         tables::check_tables(times).print(),
         tables::checked_volume(times).print(),
         figures::expansion_of().print(),
