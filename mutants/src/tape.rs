@@ -25,7 +25,7 @@ pub fn turned(level: u32) -> Vec<u8> {
     seen!(turned::tape_allowance(level))
 }
 
-/// Levels by lot in mm, half of them near those that are answered, half out of all numbers.
+/// Levels by lot in mm, half of them up to 4,000, half up to the largest number, never 0.
 pub fn drawn(count: u64) -> impl Iterator<Item = u32> {
     (0..count).map(|seed| {
         let mut draw = Draw::new(seed);

@@ -1,5 +1,5 @@
-//! The tape allowance: the list held to formula (40) of GOST R 8.787 at every level, and 16 at all
-//! others.
+//! The tape allowance: the list held to formula (40) of GOST R 8.787 at every level, and 16 at others,
+//! around the ends of what is answered and of numbers.
 
 use reference::level::tape_allowance;
 use reference::refusal::Refusal;
@@ -30,7 +30,7 @@ fn a_further_metre_begins_a_millimetre_past_a_whole_one() {
 }
 
 #[test]
-fn every_other_level_is_refused() {
+fn other_levels_are_refused() {
     let middle = 1 << 31;
     let levels = (0..1)
         .chain(3_601..=1_000_000)

@@ -9,14 +9,14 @@ use Rattle.base.specs.Limits.{highestLevel, levelUnits}
 use Rattle.base.specs.Answer.{refuseIf, first, Answer, figures, answer}
 use Rattle.base.proofs.Numbers.{inside, inside-back}
 use Rattle.dip.specs.Tape.{metre, allowances, listed, offTape, allowanceAnswer}
-use Rattle.dip.specs.Formula.{metresBegun, byFormula, formulaAnswer, FormulaRight}
+use Rattle.dip.specs.Formula.{metresBegun, firstMetre, furtherMetre, byFormula, formulaAnswer, FormulaRight}
 
 -- the metres begun behind the first are the whole ones before the level's last unit
 further : (level : ℕ) → 1 ≤ level → metresBegun level - 1 ≡ (level - 1) / metre
 further level h = omega arith
 
 -- the list by the metres begun behind the first
-by-metres : (k : ℕ) → k ≤ 3 → 30 + 15 * k ≡ getD allowances k 0
+by-metres : (k : ℕ) → k ≤ 3 → firstMetre + furtherMetre * k ≡ getD allowances k 0
 by-metres zero h = refl
 by-metres (suc zero) h = refl
 by-metres (suc (suc zero)) h = refl
@@ -24,7 +24,7 @@ by-metres (suc (suc (suc zero))) h = refl
 by-metres (suc (suc (suc (suc k)))) h = absurd (omega arith)
 
 formula-listed : (level : ℕ) → levelUnits ≤ level → level ≤ levelUnits * highestLevel → byFormula level ≡ listed level
-formula-listed level h k = ap (λ (n : ℕ). 30 + 15 * n) (further level (omega arith)) ∙ by-metres ((level - 1) / metre) (omega arith)
+formula-listed level h k = ap (λ (n : ℕ). firstMetre + furtherMetre * n) (further level (omega arith)) ∙ by-metres ((level - 1) / metre) (omega arith)
 
 formula-same : (level : ℕ) → formulaAnswer level ≡ allowanceAnswer level
 unfolding formulaAnswer allowanceAnswer

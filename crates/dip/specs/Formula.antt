@@ -10,9 +10,15 @@ use Rattle.dip.specs.Tape.{metre, listed, offTape, allowanceAnswer}
 abbrev pub metresBegun : ℕ → ℕ
 metresBegun level = (level + (metre - 1)) / metre
 
--- 0.01 mm: 0.30 mm for the first metre begun and 0.15 mm for each further one
+-- 0.01 mm, for the first metre begun and for each further one
+abbrev pub firstMetre : ℕ
+firstMetre = 30
+
+abbrev pub furtherMetre : ℕ
+furtherMetre = 15
+
 abbrev pub byFormula : ℕ → ℕ
-byFormula level = 30 + 15 * (metresBegun level - 1)
+byFormula level = firstMetre + furtherMetre * (metresBegun level - 1)
 
 unfoldable pub formulaAnswer : ℕ → Answer
 formulaAnswer level = answer (first (refuseIf 16 (offTape level) ∷ [])) (byFormula level ∷ [])
