@@ -18,7 +18,7 @@ use Rattle.car.specs.Car.{measured, aloneTests}
 use Rattle.car.proofs.Accepted.{passed-alone, level-in, rising}
 use Rattle.accuracy.specs.declared.Errors.{Errors}
 use Rattle.accuracy.specs.Permitted.{gap, levelTermOf, termsOf, errorTests, termTests, permittedTests, eightFigures, PermittedAnswer}
-use Rattle.accuracy.specs.Shown.{Around, FiguresRight, ShownRight}
+use Rattle.accuracy.specs.Shown.{Around, ShownRight}
 
 -- two rows around a level, of which the higher follows the lower
 record Found (rows : List Row) (level : ℕ) (g : Gap) : Type 0 where

@@ -1,11 +1,12 @@
 -- The permitted error of a car by itself: 24 and 25 behind all refusals of the car, and the limit beside its six figures.
 use Prim.Native.Nat.{ℕ}
 use mathlib.Core.Path.{_≡_}
-use mathlib.Core.Bool.{Bool, cond, _||_}
+use mathlib.Core.Bool.{Bool, _||_}
 use mathlib.Core.List.{List, [], _∷_, _++_}
 use lib.Dec.{ltb, eqb}
 use lib.ListN.{getD}
 use Rattle.base.specs.Answer.{Test, refuseIf, accepts, first, Answer, figures, refusal, answer}
+use Rattle.base.specs.Numbers.{oneIf}
 use Rattle.table.specs.Table.{Table}
 use Rattle.gauging.specs.Capacity.{Gap, rowsAround}
 use Rattle.heating.specs.Steps.{expansion}
@@ -82,9 +83,6 @@ unfoldable pub permittedTests : List Table → Car → Errors → List Test
 permittedTests ts c e = aloneTests ts c ++ (errorTests e ++ termTests ts (measured c) e)
 
 -- The answer: the six figures, the limit, and 1 where it is within, 0 where not.
-
-abbrev pub oneIf : Bool → ℕ
-oneIf b = cond b 1 0
 
 abbrev pub eightFigures : List Table → Car → ℕ → List ℕ
 eightFigures ts c n = figuresOf ts c ++ (n ∷ oneIf (within n (mass gross ts (measured c))) ∷ [])

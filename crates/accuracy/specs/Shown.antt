@@ -5,6 +5,7 @@ use mathlib.Core.Path.{_≡_}
 use mathlib.Core.List.{List, _∷_, _++_}
 use lib.ListN.{getD}
 use Rattle.base.specs.Limits.{inUnits}
+use Rattle.base.specs.Numbers.{oneIf}
 use Rattle.base.specs.Answer.{Answer, figures, refusal}
 use Rattle.table.specs.Table.{Row, Table}
 use Rattle.gauging.specs.Capacity.{Gap}
@@ -15,7 +16,6 @@ use Rattle.car.specs.Car.{measured}
 use Rattle.accuracy.specs.declared.Errors.{Errors}
 use Rattle.accuracy.specs.Terms.{levelStep, capacityStep, levelTerm, terms, sumOfSquares}
 use Rattle.accuracy.specs.Limit.{IsLimit, within}
-use Rattle.accuracy.specs.Permitted.{oneIf}
 
 -- two rows that follow one another, the lower below the level and the higher not: on a row, the lower pair
 pub record Around (rows : List Row) (level : ℕ) (g : Gap) : Type 0 where

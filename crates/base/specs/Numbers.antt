@@ -13,6 +13,10 @@ outside low high n = ltb n low || ltb high n
 abbrev pub difference : ℕ → ℕ → ℕ
 difference a b = cond (ltb a b) (b - a) (a - b)
 
+-- 1 for yes, 0 for no
+abbrev pub oneIf : Bool → ℕ
+oneIf b = cond b 1 0
+
 -- x is an element
 abbrev pub member : ℕ → List ℕ → Bool
 member x [] = false

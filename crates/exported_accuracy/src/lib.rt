@@ -2,7 +2,7 @@
 ghost use mathlib.Core.Path.{_≡_};
 ghost use lib.ListN.{length};
 ghost use Rattle.car.specs.Car.{carOf};
-ghost use Rattle.accuracy.specs.Permitted.{errorsOf, oneIf, permittedTold};
+ghost use Rattle.accuracy.specs.Permitted.{errorsOf, permittedTold};
 ghost use Rattle.marshalling.specs.Handed.{Handed, figuresLeft};
 ghost use Rattle.marshalling.specs.Layout.{tablesLent};
 ghost use Rattle.exported_accuracy.specs.Layout.{
@@ -17,6 +17,7 @@ use marshalling::BAD_LENGTH;
 use marshalling::all_places;
 use marshalling::car_of;
 use marshalling::directory_of;
+use marshalling::one_if;
 use marshalling::tables_fit;
 use reading::MOST_FIELDS;
 
@@ -62,16 +63,6 @@ fn errors_of(numbers: &[u32]) -> Errors
         oil_temperature: numbers[4],
         level: numbers[5],
     }
-}
-
-// 1 for yes, 0 for no.
-fn one_if(yes: bool) -> u32
-    ensures { λ r. ⌜ r ≡ oneIf yes ⌝ }
-{
-    if yes {
-        return 1;
-    }
-    0
 }
 
 // Hands an answer over: six figures, the limit, and 1 where it is within, 0 where not; or the refusal.

@@ -1,7 +1,10 @@
-// Figures of document 01 that are computed and not proved one by one, annex Д of 002 where its roundings allow, and those of requests (c)
-// and (d).
+// Figures of document 01 that are computed and not proved one by one, and annex Д of 002 where its roundings allow.
 // What it must write, the file stdout, comes from the separately written code in reference/.
-use libc::STDOUT_FILENO;
+use showing::field;
+use showing::places_of;
+use showing::refused;
+use showing::say;
+use showing::show_figures;
 use tankcar::Car;
 use tankcar::CarAnswer;
 use tankcar::Density15;
@@ -10,26 +13,6 @@ use tankcar::Directory;
 use tankcar::Expansion;
 use tankcar::Factor;
 use tankcar::LEAST_BUFFER;
-use tankcar::PLACES;
-
-mod permitted; // permitted.rt: the permitted error beside the mass
-mod reports; // reports.rt: the density at 15 °C of a laboratory's report
-
-pub(crate) fn say(text: &[u8]) {
-    io::write_all(STDOUT_FILENO, text);
-}
-
-// A number behind a space.
-pub(crate) fn field(n: u64) {
-    say(b" ");
-    io::print_decimal(STDOUT_FILENO, n);
-}
-
-pub(crate) fn refused(n: u32) {
-    say(b" refused");
-    field(n as u64);
-    say(b"\n");
-}
 
 // The density at 20 °C for a grade, in 0.1 kg/m³.
 fn show_density(grade: u32, density: u32) {
@@ -87,12 +70,7 @@ fn show_car(answer: CarAnswer) {
     say(b"annex D, car:");
     match answer {
         CarAnswer::Accepted(f) => {
-            field(f.number as u64);
-            field(f.level as u64);
-            field(f.v0 as u64);
-            field(f.v15 as u64);
-            field(f.gross as u64);
-            field(f.net as u64);
+            show_figures(f);
             say(b"\n");
         }
         CarAnswer::Refused(n) => refused(n),
@@ -107,29 +85,25 @@ fn show_sheet(text: &[u8]) {
     say(&out[..length]);
 }
 
-fn main() {
-    show_density(1, 9584);
-    show_density(1, 9585);
-    show_density(2, 9634);
-    show_density(2, 9635);
-    show_density(3, 9900);
+fn show_annex() {
     show_expansion(9632, 523);
-    let mut levels = [0u32; PLACES];
-    let mut capacities = [0u32; PLACES];
-    levels[1] = 100;
-    capacities[1] = 435;
-    levels[2] = 2900;
-    capacities[2] = 72959;
-    levels[3] = 2910;
-    capacities[3] = 73080;
+    let levels = places_of([0, 100, 2900, 2910]);
+    let capacities = places_of([0, 435, 72959, 73080]);
     let d = Directory {
         count: 1,
         types: [85, 0, 0, 0],
         rows: [4, 0, 0, 0],
     };
     show_car(tankcar::work_out(d, &levels, &capacities, annex_car()));
+}
+
+fn main() {
+    show_density(1, 9584);
+    show_density(1, 9585);
+    show_density(2, 9634);
+    show_density(2, 9635);
+    show_density(3, 9900);
+    show_annex();
     show_sheet(b"");
     show_sheet(b"T        1        2\nR        0        0\nR        1        1\nE        0\n");
-    permitted::show_all();
-    reports::show_all();
 }

@@ -8,6 +8,7 @@ pub use slices::all_places;
 pub use slices::copy;
 pub use slices::copy_at;
 pub use slices::four;
+pub use slices::one_if;
 pub use tables::car_of;
 pub use tables::directory_of;
 pub use tables::tables_fit;

@@ -1,13 +1,24 @@
-// Lent slices copied into arrays, and the numbers handed back where a slice or a byte cannot be asked about.
+// Lent slices copied into arrays, yes and no as numbers, and the number handed back where a slice cannot be asked about.
 ghost use mathlib.Core.Path.{_≡_};
 ghost use Prim.Native.Nat.{_+_, _≤_};
 ghost use lib.ListN.{length};
 ghost use Rattle.base.specs.Buffer.{put};
+ghost use Rattle.base.specs.Numbers.{oneIf};
 ghost use Rattle.table.specs.Layout.{places};
 use table::PLACES;
 
 // A lent slice has not the length that is asked for.
 pub const BAD_LENGTH: u32 = 1_000;
+
+// 1 for yes, 0 for no.
+pub fn one_if(yes: bool) -> u32
+    ensures { λ r. ⌜ r ≡ oneIf yes ⌝ }
+{
+    if yes {
+        return 1;
+    }
+    0
+}
 
 // Copies all of a slice into another, from `at` on.
 pub fn copy_at(from: &[u32], to: &mut [u32], at: usize)

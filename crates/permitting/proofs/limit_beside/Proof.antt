@@ -7,6 +7,7 @@ use native.Mathlib.Omega.{arith}
 use lib.ListN.{getD}
 use denote.Ref.{now}
 use Rattle.base.specs.Answer.{Answer, figures, refusal}
+use Rattle.base.specs.Numbers.{oneIf}
 use Rattle.table.specs.Table.{Table}
 use Rattle.table.specs.Layout.{tablesOf}
 use Rattle.heating.specs.Steps.{expansion}
@@ -19,7 +20,7 @@ use Rattle.car.specs.Car.{measured}
 use Rattle.car.proofs.Accepted.{passed-alone, fields}
 use Rattle.accuracy.specs.Limit.{IsLimit, within}
 use Rattle.accuracy.specs.Terms.{terms, sumOfSquares}
-use Rattle.accuracy.specs.Permitted.{termsOf, oneIf}
+use Rattle.accuracy.specs.Permitted.{termsOf}
 use Rattle.accuracy.proofs.Answers.{limited, turned-away}
 use Rattle.accuracy.proofs.Parts.{errors-away, in-range, no-volume, too-large, all-passed}
 use borrow.Author.Needs.{needs}

@@ -1,7 +1,7 @@
 // The density at 15 °C of a laboratory's report: the pairs that annexes Б.2 and Д of 002 print, the edges of 26 and 27, a tie.
-use crate::field;
-use crate::refused;
-use crate::say;
+use showing::field;
+use showing::refused;
+use showing::say;
 use tankcar::DensityAt15;
 use tankcar::Report;
 

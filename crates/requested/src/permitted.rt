@@ -1,13 +1,15 @@
 // The permitted error beside the mass: the worked figures of request (c) of document 02, on the tables of document 01's sheet, of annex Д
 // of 002, and on two that show one rounding and a V0 of 0.
-use crate::field;
-use crate::refused;
-use crate::say;
+use showing::field;
+use showing::places_of;
+use showing::refused;
+use showing::say;
+use showing::show_figures;
 use tankcar::Car;
 use tankcar::Density15;
 use tankcar::Directory;
 use tankcar::Errors;
-use tankcar::PLACES;
+use tankcar::Permitted;
 use tankcar::PermittedError;
 
 // Up to four rows of one table of type 1; row 0 is 0 and 0.
@@ -63,18 +65,22 @@ fn errors_of(shares: [u32; 3], temperatures: [u32; 2], level: u32) -> Errors {
     }
 }
 
+fn show_limit(p: Permitted) {
+    show_figures(p.figures);
+    field(p.limit as u64);
+    if p.within {
+        say(b" within\n");
+    } else {
+        say(b" not within\n");
+    }
+}
+
 // The six figures, the limit, and whether it is within.
 fn show(rows: Rows, car: Car, errors: Errors) {
-    let mut levels = [0u32; PLACES];
-    let mut capacities = [0u32; PLACES];
     let given_levels = rows.levels;
     let given_capacities = rows.capacities;
-    levels[1] = given_levels[1];
-    levels[2] = given_levels[2];
-    levels[3] = given_levels[3];
-    capacities[1] = given_capacities[1];
-    capacities[2] = given_capacities[2];
-    capacities[3] = given_capacities[3];
+    let levels = places_of(given_levels);
+    let capacities = places_of(given_capacities);
     let d = Directory {
         count: 1,
         types: [1, 0, 0, 0],
@@ -82,21 +88,7 @@ fn show(rows: Rows, car: Car, errors: Errors) {
     };
     say(b"permitted error:");
     match tankcar::permitted_error(d, &levels, &capacities, car, errors) {
-        PermittedError::Limit(p) => {
-            let f = p.figures;
-            field(f.number as u64);
-            field(f.level as u64);
-            field(f.v0 as u64);
-            field(f.v15 as u64);
-            field(f.gross as u64);
-            field(f.net as u64);
-            field(p.limit as u64);
-            if p.within {
-                say(b" within\n");
-            } else {
-                say(b" not within\n");
-            }
-        }
+        PermittedError::Limit(p) => show_limit(p),
         PermittedError::Refused(n) => refused(n),
     }
 }
