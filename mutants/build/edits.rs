@@ -75,6 +75,7 @@ pub const MARKS: &[(&str, &str, &str, &str)] = &[
         "crate::hooks::place(crate::hooks::AT, crate::hooks::LABORATORY);",
         "",
     ),
+    ("stick", "«ensure(COUNTS»", "crate::hooks::place(crate::hooks::TAPE, count);", ""),
     ("mass", "«nearest(volume * contraction»", "crate::hooks::place(crate::hooks::AT, 15);", ""),
     ("listing", "«match train.enter»", "crate::hooks::next_car();", ""),
     ("listing", "«self.length += line::write»", "crate::hooks::begin_answer(letter);", ""),

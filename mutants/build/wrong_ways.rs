@@ -1270,4 +1270,209 @@ pub const EDITS: &[Edit] = &[
             ("the next field", "Density15(found.0 + 1)"),
         ],
     },
+    Edit {
+        module: "stick",
+        old: "ensure(«COUNTS.contains(&count)»,",
+        new: &[
+            ("28 not below 10", "count <= 20"),
+            ("28 not above 20", "count >= 10"),
+            ("28 in 8 bits", "COUNTS().contains(&(count & 0xff))"),
+            ("28 in 16 bits", "COUNTS().contains(&(count & 0xffff))"),
+            ("28 in 31 bits", "COUNTS().contains(&(count & 0x7fff_ffff))"),
+            ("28 without a sign", "COUNTS().contains(&(count as i32).unsigned_abs())"),
+            ("28 by the places that are not 0", "COUNTS().contains(&(readings.iter()\
+              .filter(|&&reading| reading != 0).count() as u32))"),
+        ],
+    },
+    Edit {
+        module: "stick",
+        old: "contains(&count), «Refusal::TapeReadingCount»)",
+        new: &[
+            ("29 in place of 28", "Refusal::StickOrTapeLevel"),
+            ("14 in place of 28", "Refusal::ReadingCount"),
+        ],
+    },
+    Edit {
+        module: "stick",
+        old: "take(«count as usize»)",
+        new: &[
+            ("all places", "TAPE_READINGS"),
+            ("the first ten", "10"),
+            ("one place less", "count as usize - 1"),
+            ("one place more", "count as usize + 1"),
+        ],
+    },
+    Edit {
+        module: "stick",
+        old: "ensure(«given.clone().all(|reading| LEVELS.contains(reading))»,",
+        new: &[
+            ("readings not tested", "true"),
+            ("first reading not tested", "given.clone().skip(1).all(|r| LEVELS().contains(r))"),
+            ("last reading not tested", "given.clone().take(count as usize - 1)\
+              .all(|r| LEVELS().contains(r))"),
+            ("first ten readings tested", "given.clone().take(10).all(|r| LEVELS().contains(r))"),
+            ("any reading fits", "given.clone().any(|r| LEVELS().contains(r))"),
+            ("lowest reading tested", "given.clone().min().is_some_and(|r| LEVELS().contains(r))"),
+            ("highest reading tested", "given.clone().max().is_some_and(|r| LEVELS().contains(r))"),
+            ("mean tested", "LEVELS().contains(&((given.clone().copied().map(u64::from)\
+              .sum::<u64>() / u64::from(count)) as u32))"),
+            ("reading of 0 taken", "given.clone().all(|&r| r <= HIGHEST)"),
+            ("reading of 3,601 taken", "given.clone().all(|&r| r > 0 && r <= HIGHEST + 1)"),
+            ("all places tested", "readings.iter().all(|r| LEVELS().contains(r))"),
+            ("unused places must be 0", "given.clone().all(|r| LEVELS().contains(r)) \
+              && readings.iter().skip(count as usize).all(|&unused| unused == 0)"),
+            ("readings in 16 bits", "{ let cut = readings.map(|r| r & 0xffff); \
+              if cut != readings { return stick_against_tape(stick, count, cut); } \
+              given.clone().all(|r| LEVELS().contains(r)) }"),
+            ("readings in 31 bits", "{ let cut = readings.map(|r| r & 0x7fff_ffff); \
+              if cut != readings { return stick_against_tape(stick, count, cut); } \
+              given.clone().all(|r| LEVELS().contains(r)) }"),
+            ("readings without their sign", "{ let cut = readings.map(|r| (r as i32).unsigned_abs()); \
+              if cut != readings { return stick_against_tape(stick, count, cut); } \
+              given.clone().all(|r| LEVELS().contains(r)) }"),
+        ],
+    },
+    Edit {
+        module: "stick",
+        old: "contains(reading)), «Refusal::StickOrTapeLevel»)",
+        new: &[
+            ("28 in place of 29 for a reading", "Refusal::TapeReadingCount"),
+            ("16 in place of 29 for a reading", "Refusal::Level"),
+        ],
+    },
+    Edit {
+        module: "stick",
+        old: "ensure(«LEVELS.contains(&stick)»,",
+        new: &[
+            ("stick not tested", "true"),
+            ("stick of 0 taken", "if stick == 0 { return stick_against_tape(1, count, readings); } \
+              stick <= HIGHEST"),
+            ("stick of 3,601 taken", "if stick == HIGHEST + 1 \
+              { return stick_against_tape(HIGHEST, count, readings); } LEVELS().contains(&stick)"),
+            ("stick in 16 bits", "if stick > 0xffff \
+              { return stick_against_tape(stick & 0xffff, count, readings); } \
+              LEVELS().contains(&stick)"),
+            ("stick in 31 bits", "if stick > 0x7fff_ffff \
+              { return stick_against_tape(stick & 0x7fff_ffff, count, readings); } \
+              LEVELS().contains(&stick)"),
+            ("stick without its sign", "if stick > 0x8000_0000 \
+              { return stick_against_tape(stick.wrapping_neg(), count, readings); } \
+              LEVELS().contains(&stick)"),
+        ],
+    },
+    Edit {
+        module: "stick",
+        old: "contains(&stick), «Refusal::StickOrTapeLevel»)",
+        new: &[
+            ("28 in place of 29 for the stick", "Refusal::TapeReadingCount"),
+            ("16 in place of 29 for the stick", "Refusal::Level"),
+        ],
+    },
+    Edit {
+        module: "stick",
+        old: "let sum: i64 = «given.copied().map(i64::from).sum()»;",
+        new: &[
+            ("of all places", "readings.iter().copied().map(i64::from).sum()"),
+            ("of the first ten", "given.take(10).copied().map(i64::from).sum()"),
+            ("without the first", "given.skip(1).copied().map(i64::from).sum()"),
+            ("without the last", "given.take(count as usize - 1).copied().map(i64::from).sum()"),
+            ("by the first reading", "i64::from(readings[0]) * i64::from(count)"),
+            ("by the last reading", "i64::from(readings[count as usize - 1]) * i64::from(count)"),
+            ("by the lowest reading", "given.min().map_or(0, |&r| i64::from(r)) * i64::from(count)"),
+            ("by the highest reading", "given.max().map_or(0, |&r| i64::from(r)) * i64::from(count)"),
+            ("in 8 bits", "i64::from(given.fold(0_u8, |sum, &r| sum.wrapping_add(r as u8)))"),
+            ("in 16 bits", "i64::from(given.fold(0_u16, |sum, &r| sum.wrapping_add(r as u16)))"),
+            ("in 16 bits with a sign", "i64::from(given.fold(0_i16, |sum, &r| sum.wrapping_add(r as i16)))"),
+            ("by the mean in whole mm", "nearest(given.copied().map(u64::from).sum(), count.into()) as i64 \
+              * i64::from(count)"),
+            ("by the mean cut to whole mm", "given.copied().map(i64::from).sum::<i64>() / i64::from(count) \
+              * i64::from(count)"),
+        ],
+    },
+    Edit {
+        module: "stick",
+        old: "let apart = «i64::from(stick) * i64::from(count) - sum»;",
+        new: &[
+            ("stick times readings in 16 bits", "i64::from((stick * count) as u16) - sum"),
+            ("in 16 bits with a sign", "i64::from((i64::from(stick * count) - sum) as i16)"),
+            ("without its sign", "(i64::from(stick * count) - sum).abs()"),
+            ("not below 0", "(i64::from(stick * count) - sum).max(0)"),
+        ],
+    },
+    Edit {
+        module: "stick",
+        old: "difference: «hundredths(apart, count)»,",
+        new: &[
+            ("mean over 20", "hundredths(20 * i64::from(stick) - sum, 20)"),
+            ("mean over 10", "hundredths(10 * i64::from(stick) - sum, 10)"),
+            ("in whole mm", "100 * hundredths(apart, 100 * count)"),
+            ("in tenths", "10 * hundredths(apart, 10 * count)"),
+            ("by the mean in 0.01 mm", "100 * i64::from(stick) \
+              - nearest(100 * sum.unsigned_abs(), count.into()) as i64"),
+            ("by the mean in 0.1 mm", "100 * i64::from(stick) \
+              - 10 * nearest(10 * sum.unsigned_abs(), count.into()) as i64"),
+            ("in double floating point", "(100.0 * (f64::from(stick) - sum as f64 / f64::from(count)))\
+              .round() as i64"),
+            ("in single floating point", "(100.0 * (stick as f32 - sum as f32 / count as f32))\
+              .round() as i64"),
+            ("in 8 bits", "i64::from(hundredths(apart, count) as i8)"),
+            ("in 16 bits", "i64::from(hundredths(apart, count) as u16)"),
+            ("in 16 bits with a sign", "i64::from(hundredths(apart, count) as i16)"),
+            ("without its sign", "hundredths(apart, count).abs()"),
+            ("with the allowance", "hundredths(apart, count) + i64::from(tape_allowance(stick)?)"),
+            ("less the allowance", "hundredths(apart, count) - i64::from(tape_allowance(stick)?)"),
+        ],
+    },
+    Edit {
+        module: "stick",
+        old: "let passes = «apart.unsigned_abs() <= FURTHEST_MM * u64::from(count)»;",
+        new: &[
+            ("by the rounded difference", "hundredths(apart, count).abs() <= 200"),
+            ("2 mm fails", "hundredths(apart, count).abs() < 200"),
+            ("205 passes", "hundredths(apart, count).abs() <= 205"),
+            ("in double floating point", "(f64::from(stick) - sum as f64 / f64::from(count)).abs() <= 2.0"),
+            ("by the difference cut to tenths", "10 * apart.unsigned_abs() / u64::from(count) <= 20"),
+            ("by the difference in tenths", "hundredths(apart, 10 * count).abs() <= 20"),
+            ("by the difference in tenths, a half down", "(20 * apart.unsigned_abs() \
+              + u64::from(count) - 1) / (2 * u64::from(count)) <= 20"),
+            ("by the difference cut to whole mm", "apart.unsigned_abs() / u64::from(count) <= 2"),
+            ("by the difference in whole mm", "nearest(apart.unsigned_abs(), count.into()) <= 2"),
+            ("by the mean in whole mm", "u64::from(stick)\
+              .abs_diff(nearest(sum.unsigned_abs(), count.into())) <= 2"),
+            ("not where the stick is below", "apart <= 2 * i64::from(count)"),
+            ("not where the stick is above", "-apart <= 2 * i64::from(count)"),
+            ("by the allowance", "hundredths(apart, count).unsigned_abs() <= tape_allowance(stick)?.into()"),
+            ("by the allowance too", "hundredths(apart, count).unsigned_abs() \
+              <= 200 + u64::from(tape_allowance(stick)?)"),
+            ("less the allowance", "hundredths(apart, count).unsigned_abs() \
+              + u64::from(tape_allowance(stick)?) <= 200"),
+            ("by every reading", "readings.iter().take(count as usize).all(|r| r.abs_diff(stick) <= 2)"),
+            ("by any reading", "readings.iter().take(count as usize).any(|r| r.abs_diff(stick) <= 2)"),
+            ("by the sum over 20", "apart.unsigned_abs() <= 40"),
+            ("by the sum over 10", "apart.unsigned_abs() <= 20"),
+        ],
+    },
+    Edit {
+        module: "stick",
+        old: "allowance: «tape_allowance(stick)?»,",
+        new: &[
+            ("of the mean", "tape_allowance((sum as u32).div_ceil(count))?"),
+            ("of the first reading", "tape_allowance(readings[0])?"),
+            ("of the last reading", "tape_allowance(readings[count as usize - 1])?"),
+            ("of the lowest reading", "tape_allowance(*readings.iter().take(count as usize).min().unwrap())?"),
+            ("of the highest reading", "tape_allowance(*readings.iter().take(count as usize).max().unwrap())?"),
+            ("of 1,500 mm", "45"),
+            ("none", "0"),
+        ],
+    },
+    Edit {
+        module: "stick",
+        old: "«apart.signum() * size as i64»",
+        new: &[
+            ("a half going up", "(200 * apart + i64::from(count)).div_euclid(2 * i64::from(count))"),
+            ("a half going down", "-(i64::from(count) - 200 * apart).div_euclid(2 * i64::from(count))"),
+            ("rounded down", "(100 * apart).div_euclid(i64::from(count))"),
+            ("rounded up", "-(-100 * apart).div_euclid(i64::from(count))"),
+        ],
+    },
 ];

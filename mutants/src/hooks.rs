@@ -39,12 +39,14 @@ pub const AT: usize = 9;
 pub const CAR: usize = 10;
 /// The letter of the line of the answer.
 pub const ANSWER: usize = 19;
+/// The number of tape readings.
+pub const TAPE: usize = 20;
 const SKIPPED: usize = 11;
 const TYPES: usize = 12;
 const ROW_LEVEL: usize = 16;
 const ROW_CAPACITY: usize = 17;
 const TABLES: usize = 18;
-const KEYS: usize = 20;
+const KEYS: usize = 21;
 
 /// Where a wrong way is taken: where the key's number lies between two bounds.
 #[derive(Clone, Copy, Debug, PartialEq, Eq)]
@@ -57,9 +59,10 @@ pub struct Context {
 /// At a laboratory, where the temperature is any: among the numbers of [`AT`], which are degrees.
 pub const LABORATORY: u32 = 100;
 
-/// The refusals of a car, and those of a report, in the order in which they are tested.
-pub const ORDERS: [&[u32]; 2] =
-    [&[10, 11, 12, 13, 14, 15, 23, 16, 17, 18, 19, 20, 21, 24, 25], &[26, 27]];
+/// The refusals of a car, those of a report and those of a stick's check, in the order in which they
+/// are tested.
+pub const ORDERS: [&[u32]; 3] =
+    [&[10, 11, 12, 13, 14, 15, 23, 16, 17, 18, 19, 20, 21, 24, 25], &[26, 27], &[28, 29]];
 
 /// Two refusals that are tested in the other order, or none.
 static FIRST: AtomicU32 = AtomicU32::new(0);
@@ -276,7 +279,7 @@ macro_rules! number {
     )*};
 }
 
-number!(u8, u32, u64, usize);
+number!(u8, u32, u64, i64, usize);
 
 pub fn number<T: Number>(point: usize, right: T) -> T {
     match chosen(point) {

@@ -7,6 +7,7 @@ mod hooks;
 mod laboratory;
 mod mutants;
 mod permitted;
+mod stick;
 mod tape;
 mod trial;
 /// The reference's modules, with points.
@@ -123,14 +124,16 @@ fn kit(first: usize) -> Kit {
     let cars = vectors::all::<vectors::permitted::Vector>();
     let reports = vectors::all::<vectors::laboratory::Vector>();
     let levels = vectors::all::<vectors::tape::Vector>();
+    let checks = vectors::all::<vectors::stick::Vector>();
     let sheets = cases.len().min(first);
-    let vectors = cars.len() + reports.len() + levels.len();
+    let vectors = cars.len() + reports.len() + levels.len() + checks.len();
     let cases = cases.into_iter().take(first);
     let trials = cases
         .map(|case| Trial::new(case.name.to_string(), case.sheet))
         .chain(cars.into_iter().map(Trial::of_vector))
         .chain(laboratory::of_vectors(&reports).into_iter().map(Trial::of_reports))
         .chain(levels.into_iter().map(|vector| Trial::of_level(vector.level)))
+        .chain(checks.into_iter().map(Trial::of_check))
         .collect();
     Kit { trials, sheets, vectors }
 }
@@ -143,6 +146,7 @@ fn generated(sheets: u64) -> Vec<Trial> {
         .chain(permitted::drawn(sheets).map(Trial::of_vector))
         .chain(laboratory::drawn(sheets / 10).map(Trial::of_reports))
         .chain(tape::drawn(sheets).map(Trial::of_level))
+        .chain(stick::drawn(sheets).map(Trial::of_check))
         .collect()
 }
 

@@ -1,5 +1,6 @@
 //! The list of wrong programs: every wrong way at every point, also held to one line, field, table
-//! or car, and every two refusals of a car, or of a report, tested in the other order.
+//! or car, and every two refusals of a car, of a report, or of a stick's check, tested in the other
+//! order.
 
 use std::fmt;
 use std::sync::OnceLock;
@@ -31,6 +32,8 @@ fn keys(point: &Point) -> &'static [usize] {
         ("table", _) => &[hooks::TABLE],
         ("level", "tape_allowance" | "metres") => &[],
         ("level", _) => &[hooks::GIVEN],
+        ("stick", _) if point.code.starts_with("ensure(") => &[],
+        ("stick", _) => &[hooks::TAPE],
         ("car", _) => &[hooks::GRADE, hooks::STICK, hooks::TABLE, hooks::GIVEN],
         ("thermal", "exponential") => &[hooks::AT, hooks::POWER, hooks::STICK, hooks::GRADE],
         ("thermal", "numbered" | "expansion" | "volume_at_temperature") => {
@@ -57,6 +60,7 @@ fn ranges(key: usize) -> Vec<(u32, u32)> {
         hooks::ROW => vec![(1, 1), (2, 2), (3, 3), (4, 400), (256, 400), (400, 400)],
         hooks::STICK => each(1..=2),
         hooks::GIVEN => vec![(2, 2), (4, 4)],
+        hooks::TAPE => each(10..=20),
         hooks::POWER => each(2..=6),
         hooks::AT => [15, 20, hooks::LABORATORY].map(|at| (at, at)).to_vec(),
         _ => each(1..=60),
@@ -145,6 +149,7 @@ impl fmt::Display for Context {
             hooks::LINE | hooks::ANSWER => write!(to, "line {}", low as u8 as char),
             hooks::FIELD => write!(to, "field {} of {}", low % 100, (low / 100) as u8 as char),
             hooks::AT if low == hooks::LABORATORY => write!(to, "at the laboratory"),
+            hooks::TAPE => write!(to, "tape readings {low}"),
             _ if low == high => write!(to, "{} {low}", names[key]),
             _ => write!(to, "{} {low} to {high}", names[key]),
         }

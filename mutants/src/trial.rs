@@ -1,13 +1,15 @@
-//! Trying a wrong program on sheets, on cars with given errors, on laboratories' reports and on levels.
+//! Trying a wrong program on sheets, on cars with given errors, on laboratories' reports, on levels and
+//! on sticks set against the tape.
 
 use std::panic::{self, AssertUnwindSafe};
 
 use reference::conformance::vectors::permitted::Vector;
+use reference::conformance::vectors::stick::Vector as Check;
 
 use crate::hooks;
 use crate::laboratory::Reports;
 use crate::mutants::{contexts_of, Mutant};
-use crate::{permitted, tape, turned, POINTS};
+use crate::{permitted, stick, tape, turned, POINTS};
 
 /// What a program is asked.
 enum Question {
@@ -16,6 +18,7 @@ enum Question {
     Density(Reports),
     /// The tape allowance at a level in mm.
     Allowance(u32),
+    StickAgainstTape(Check),
 }
 
 impl Question {
@@ -26,6 +29,7 @@ impl Question {
             Self::PermittedError(vector) => permitted::right(vector),
             Self::Density(reports) => reports.right(),
             Self::Allowance(level) => tape::right(*level),
+            Self::StickAgainstTape(check) => stick::right(check),
         }
     }
 
@@ -36,6 +40,7 @@ impl Question {
             Self::PermittedError(vector) => permitted::turned(vector),
             Self::Density(reports) => reports.turned(),
             Self::Allowance(level) => tape::turned(*level),
+            Self::StickAgainstTape(check) => stick::turned(check),
         }
     }
 }
@@ -68,6 +73,11 @@ impl Trial {
     /// A level in mm, and its tape allowance.
     pub fn of_level(level: u32) -> Self {
         Self::of(format!("level {level}"), Question::Allowance(level))
+    }
+
+    /// A stick level with tape readings, and what is found of the stick.
+    pub fn of_check(check: Check) -> Self {
+        Self::of(check.name.clone(), Question::StickAgainstTape(check))
     }
 
     /// # Panics

@@ -18,6 +18,7 @@ pub mod refusal;
 pub mod rounding;
 pub mod sheet;
 pub mod sheets;
+pub mod stick;
 pub mod table;
 pub mod thermal;
 pub mod train;

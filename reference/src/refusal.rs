@@ -58,6 +58,10 @@ pub enum Refusal {
     LaboratoryTemperature = 26,
     /// No density at 15 °C comes near enough to the laboratory's density.
     LaboratoryDensity = 27,
+    /// The number of tape readings is out of its range.
+    TapeReadingCount = 28,
+    /// A tape reading that is given, or the stick level, is out of its range.
+    StickOrTapeLevel = 29,
 }
 
 impl Refusal {

@@ -5,7 +5,7 @@ use std::collections::HashSet;
 use std::fmt::Debug;
 
 use reference::conformance::vectors::{
-    all, expected, file, laboratory, permitted, read, tape, Written,
+    all, expected, file, laboratory, permitted, read, stick, tape, Written,
 };
 
 /// What holds of every file: the answers, the names, and that it is read as it was written.
@@ -37,6 +37,7 @@ fn files() {
     hold::<permitted::Vector>(150);
     hold::<laboratory::Vector>(200);
     hold::<tape::Vector>(70);
+    hold::<stick::Vector>(380);
 }
 
 #[test]
@@ -63,6 +64,22 @@ fn both_ends_of_every_metre_are_tried() {
     let vectors = all::<tape::Vector>();
     for level in [0, 1, 1_000, 1_001, 2_000, 2_001, 3_000, 3_001, 3_600, 3_601] {
         assert!(vectors.iter().any(|vector| vector.level == level), "{level}");
+    }
+}
+
+#[test]
+fn names_tell_the_outcome_of_a_check() {
+    for vector in all::<stick::Vector>() {
+        let name = &vector.name;
+        let check = vector.work_out();
+        let number = check.err().map(|refusal| refusal.number());
+        assert!(name.starts_with("parting-") || number == named_refusal(name), "{name}");
+        let Ok(check) = check else { continue };
+        assert!(!name.starts_with("at-2-mm-") || check.passes, "{name}");
+        assert!(!name.starts_with("past-2-mm-") || !check.passes, "{name}");
+        assert!(!name.contains("-above-with-") || check.difference > 0, "{name}");
+        assert!(!name.contains("-below-with-") || check.difference < 0, "{name}");
+        assert!(!name.starts_with("none-") || check.difference == 0, "{name}");
     }
 }
 

@@ -1,7 +1,8 @@
 //! Single operations, for a caller who has one line, some tables or some fields and no sheet.
 //!
 //! Each gives those refusals that test what it is handed, in the listed order. The mean level and
-//! the tape allowance stand in [`crate::level`], a laboratory's density in [`crate::laboratory`].
+//! the tape allowance stand in [`crate::level`], a laboratory's density in [`crate::laboratory`], the
+//! check of a stick in [`crate::stick`].
 
 use std::sync::LazyLock;
 

@@ -6,6 +6,7 @@
 
 pub mod laboratory;
 pub mod permitted;
+pub mod stick;
 pub mod tape;
 
 /// A vector as it stands on its line: name, question and answer, in parts between bars.
