@@ -76,15 +76,19 @@ number-most (t ∷ ts) n {k} e = let p = numbered-parts t ts n in go (number-mos
     go later true p e = let q : t .number ≡ k = cc in omega arith
     go later false p e = later e
 
--- One test alone.
+-- One test alone: by its verdict, then by its number.
+
+pub one-applies : (n : ℕ) (b : Bool) {k : ℕ} → first (refuseIf n b ∷ []) ≡ refuses k → (b ≡ true) × (n ≡ k)
+one-applies n true e = (refl, cc)
+one-applies n false e = never (cc)
+
+pub one-passes : (n : ℕ) (b : Bool) → first (refuseIf n b ∷ []) ≡ accepts → b ≡ false
+one-passes n true e = never (cc)
+one-passes n false e = refl
 
 module _ (n : ℕ) (b : Bool) where
   pub alone-applies : {k : ℕ} → k ≡ firstNumber (refuseIf n b ∷ []) → (k ≡ 0 → ⊥) → b ≡ true
-  alone-applies {k} e h = go b e
-    where
-      go : (b : Bool) → k ≡ numberOf (cond b (refuses n) accepts) → b ≡ true
-      go true e = refl
-      go false e = absurd (h e)
+  alone-applies e h = one-applies n b (by-number (first (refuseIf n b ∷ [])) e h) .0
 
   pub alone-passes : {k : ℕ} → k ≡ firstNumber (refuseIf n b ∷ []) → k ≡ 0 → 0 < n → b ≡ false
   alone-passes {k} e z p = go b e

@@ -1,4 +1,4 @@
--- Laws of `outside`, of `difference`, and of `member` over the first elements of a list, as a loop passes them.
+-- Laws of `outside`, of `difference`, and of `any` and `member` over the first elements of a list, as a loop passes them.
 use Prim.Native.Nat.{ℕ, _+_, _-_, _≤_, _<_, min}
 use mathlib.Core.Path.{_≡_, refl, ap, sym, _∙_}
 use mathlib.Core.Bool.{Bool, true, false, _||_, or-false, or-true, or-assoc}
@@ -11,7 +11,7 @@ use lib.ListN.{length, getD, take}
 use lib.Seq.{take-suc, take-all, take-length}
 use lib.Dec.{ltb, eqb}
 use borrow.Author.Tests.{eq-eqb, ne-eqb, ltb-true, ltb-false, lt-ltb, le-ltb}
-use Rattle.base.specs.Numbers.{outside, difference, member}
+use Rattle.base.specs.Numbers.{outside, difference, any, member}
 use Rattle.base.proofs.Choice.{below, neither, cond-either}
 
 -- a number that is not outside is inside, and the other way
@@ -38,20 +38,22 @@ pub difference-sum : (a b : ℕ) → difference a b ≡ (a - b) + (b - a)
 difference-sum a b =
     cond-either (λ (d : ℕ). d ≡ (a - b) + (b - a)) (ltb a b) (b - a) (a - b) (λ e. omega (arith, ltb-true a b e)) (λ e. omega (arith, ltb-false a b e))
 
-pub member-snoc : (x : ℕ) (l : List ℕ) (y : ℕ) → member x (l ++ (y ∷ [])) ≡ (member x l || eqb y x)
-member-snoc x [] y = or-false (eqb y x)
-member-snoc x (z ∷ l) y = ap (λ (t : Bool). eqb z x || t) (member-snoc x l y) ∙ sym (or-assoc (eqb z x) (member x l) (eqb y x))
+-- `any` over one element more
+
+any-snoc : (test : ℕ → Bool) (l : List ℕ) (y : ℕ) → any test (l ++ (y ∷ [])) ≡ (any test l || test y)
+any-snoc test [] y = or-false (test y)
+any-snoc test (z ∷ l) y = ap (λ (t : Bool). test z || t) (any-snoc test l y) ∙ sym (or-assoc (test z) (any test l) (test y))
+
+pub any-more : (test : ℕ → Bool) (l : List ℕ) (i : ℕ) → i < length l → any test (take (i + 1) l) ≡ (any test (take i l) || test (getD l i 0))
+any-more test l i h = ap (λ (k : ℕ). any test (take k l)) (add-one i) ∙ ap (any test) (take-suc l i 0 h) ∙ any-snoc test (take i l) (getD l i 0)
 
 -- one more element is passed
 module _ (x : ℕ) (l : List ℕ) (i : ℕ) (h : i < length l) where
-  member-more : member x (take (i + 1) l) ≡ (member x (take i l) || eqb (getD l i 0) x)
-  member-more = ap (λ (k : ℕ). member x (take k l)) (add-one i) ∙ ap (member x) (take-suc l i 0 h) ∙ member-snoc x (take i l) (getD l i 0)
-
   pub member-hit : getD l i 0 ≡ x → true ≡ member x (take (i + 1) l)
-  member-hit e = sym (member-more ∙ ap (λ (t : Bool). member x (take i l) || t) (eq-eqb (getD l i 0) x e) ∙ or-true (member x (take i l)))
+  member-hit e = sym (any-more (λ (y : ℕ). eqb y x) l i h ∙ ap (λ (t : Bool). member x (take i l) || t) (eq-eqb (getD l i 0) x e) ∙ or-true (member x (take i l)))
 
   pub member-miss : {t : Bool} → (getD l i 0 ≡ x → ⊥) → t ≡ member x (take i l) → t ≡ member x (take (i + 1) l)
-  member-miss n e = e ∙ sym (member-more ∙ ap (λ (t : Bool). member x (take i l) || t) (ne-eqb (getD l i 0) x n) ∙ or-false (member x (take i l)))
+  member-miss n e = e ∙ sym (any-more (λ (y : ℕ). eqb y x) l i h ∙ ap (λ (t : Bool). member x (take i l) || t) (ne-eqb (getD l i 0) x n) ∙ or-false (member x (take i l)))
 
 -- as many as there are, of the first n
 pub take-lesser : (n : ℕ) (l : List ℕ) → take (min n (length l)) l ≡ take n l

@@ -17,10 +17,14 @@ difference a b = cond (ltb a b) (b - a) (a - b)
 abbrev pub oneIf : Bool → ℕ
 oneIf b = cond b 1 0
 
+-- the test holds of an element
+abbrev pub any : (ℕ → Bool) → List ℕ → Bool
+any test [] = false
+any test (x ∷ xs) = test x || any test xs
+
 -- x is an element
 abbrev pub member : ℕ → List ℕ → Bool
-member x [] = false
-member x (y ∷ ys) = eqb y x || member x ys
+member x = any (λ (y : ℕ). eqb y x)
 
 -- r is x, and below 2³²
 pub record Wide (x r : ℕ) : Type 0 where

@@ -10,8 +10,9 @@ use lib.Dec.{ltb, eqb}
 use lib.ListN.{length, getD, drop, replicate, length-drop}
 use lib.Seq.{getD-drop}
 use borrow.Author.Tests.{lt-ltb, le-ltb, eq-eqb, ne-eqb, not-true}
-use Rattle.base.specs.Answer.{Verdict, accepts, refuses, first}
-use Rattle.base.proofs.Choice.{below, same, never}
+use Rattle.base.specs.Answer.{Verdict, refuses, first}
+use Rattle.base.proofs.Choice.{below, same}
+use Rattle.base.proofs.Answer.{one-applies}
 use Rattle.field.specs.declared.Field.{Field}
 use Rattle.field.specs.Field.{columns, columnOf, seenTo, finish, fieldAt}
 use Rattle.reading.specs.declared.letter.Letter.{Letter}
@@ -33,11 +34,6 @@ use Rattle.grammar.specs.Faults.{numberIn, letterIn, numberFaults, lette
 use Rattle.grammar.specs.Sheet.{State, refusedHere, dueBy, dueOf, byLetter, stepOf}
 use Rattle.grammar.proofs.Rules.{table-refused, row-refused, car-refused, end-refused}
 use Rattle.grammar.proofs.Steps.{step-read}
-
--- one test that applies, and its number
-one-applies : (n : ℕ) (b : Bool) {k : ℕ} → cond b (refuses n) accepts ≡ refuses k → (b ≡ true) × (n ≡ k)
-one-applies n true e = (refl, cc)
-one-applies n false e = never (cc)
 
 -- From a place of s on, and from the start of the rest.
 

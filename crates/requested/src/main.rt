@@ -1,9 +1,11 @@
-// Worked figures of requests (c) and (d) of document 02.
+// Worked figures of requests (c), (d) and (f) of document 02.
 // What it must write, the file stdout, comes from the separately written code in reference/.
 mod permitted; // permitted.rt: the permitted error beside the mass
 mod reports; // reports.rt: the density at 15 °C of a laboratory's report
+mod sticks; // sticks.rt: the stick compared with the tape
 
 fn main() {
     permitted::show_all();
     reports::show_all();
+    sticks::show_all();
 }

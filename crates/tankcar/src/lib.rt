@@ -15,6 +15,13 @@ pub use dip::MeanLevel;
 pub use level::mean_level;
 pub use tape::tape_allowance;
 
+// The stick compared with the tape; TAPE_READINGS places are handed in.
+pub use comparing::stick_against_tape;
+pub use comparison::Comparison;
+pub use comparison::Difference;
+pub use comparison::StickCheck;
+pub use comparison::TAPE_READINGS;
+
 // Capacity tables and V0; PLACES rows have room in the arrays that are lent.
 pub use capacity::checked_volume;
 pub use gauging::Volume;

@@ -10,7 +10,6 @@ use Rattle.base.specs.Answer.{Answer, figures, refusal}
 use Rattle.base.specs.Numbers.{oneIf}
 use Rattle.table.specs.Table.{Table}
 use Rattle.table.specs.Layout.{tablesOf}
-use Rattle.heating.specs.Steps.{expansion}
 use Rattle.heating.proofs.Bounds.{expansion-most}
 use Rattle.grading.specs.Inner.{FieldsInRange}
 use Rattle.car.specs.declared.Car.{Car}
