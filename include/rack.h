@@ -4,7 +4,7 @@
  *
  * Every function but rack_answer_sheet hands back
  *   0                 the operation's figures stand in the places that were lent for them;
- *   2 to 27           the refusal of this number (README.md), the first that applies;
+ *   2 to 29           the refusal of this number (README.md), the first that applies;
  *   RACK_BAD_LENGTH   a slice has not the length that is asked for;
  *   RACK_BAD_LETTER   a byte is no letter of a line (rack_write_line only).
  * Beside any number but 0 nothing is written, but for what rack_train_enter says of its train.
@@ -45,11 +45,13 @@ extern "C" {
 #define RACK_BAD_LENGTH 1000
 #define RACK_BAD_LETTER 1001
 
-/* Lengths of slices: the numbers of a line, which are those of a car too; readings; tables; the places
-   of their rows, 400 for each table; the figures of a car; its given errors; its figures with the
-   permitted error; a train. */
+/* Lengths of slices: the numbers of a line, which are those of a car too; readings; readings of the tape;
+   the figures of a stick; tables; the places of their rows, 400 for each table; the figures of a car; its
+   given errors; its figures with the permitted error; a train. */
 #define RACK_FIELDS 14
 #define RACK_READINGS 4
+#define RACK_TAPE_READINGS 20
+#define RACK_STICK 4
 #define RACK_TABLES 4
 #define RACK_PLACES 1600
 #define RACK_FIGURES 6
@@ -102,6 +104,20 @@ uint32_t rack_mean_level(uint32_t count,
 /* The tape allowance at a level, in 0.01 mm: 30 for the first metre begun, 15 for each further one.
    Refusal 16 (1 to 3,600). */
 uint32_t rack_tape_allowance(uint32_t level, uint32_t *allowance);
+
+/*
+ * A stick level against the mean of the tape: the first `count`, 10 to 20, of `readings`
+ * [RACK_TAPE_READINGS]; the other places are not looked at. `figures` [RACK_STICK] gets
+ *   [0]  1 where the stick level is below the mean, so that the difference, stick level minus mean, is
+ *        negative; else 0;
+ *   [1]  the size of the difference in 0.01 mm, a half going away from zero; where it is 0, so is [0];
+ *   [2]  1 where the stick passes: before rounding it is at most 2 mm from the mean, either way; else 0;
+ *   [3]  the tape allowance at the stick level, in 0.01 mm.
+ * Refusals 28 (10 to 20 readings), 29 (1 to 3,600 for each of these and for the stick level).
+ */
+uint32_t rack_stick_against_tape(uint32_t stick, uint32_t count,
+                                 const uint32_t *readings, size_t readings_len,
+                                 uint32_t *figures, size_t figures_len);
 
 /*
  * Whether `count` tables are turned away by 7 or 8. Table k, from 0 on, has the type types[k] and

@@ -5,6 +5,7 @@
 
 pub mod random;
 pub mod slices;
+pub mod stick;
 pub mod tuned;
 
 /// Handed back where a lent slice has not the length that is asked for.
@@ -12,10 +13,13 @@ pub const BAD_LENGTH: u32 = 1_000;
 /// Handed back where a byte is no letter.
 pub const BAD_LETTER: u32 = 1_001;
 
-/// Lengths of lent slices: a line's numbers, readings, types and rows of tables, levels and
-/// capacities, a car's figures, its given errors, its figures with the permitted error, a train.
+/// Lengths of lent slices: a line's numbers, readings, readings of the tape, a stick's figures, types and
+/// rows of tables, levels and capacities, a car's figures, its given errors, its figures with the
+/// permitted error, a train.
 pub const FIELDS: usize = 14;
 pub const READINGS: usize = 4;
+pub const TAPE_READINGS: usize = 20;
+pub const STICK: usize = 4;
 pub const TABLES: usize = 4;
 pub const PLACES: usize = 1_600;
 pub const FIGURES: usize = 6;
@@ -70,6 +74,14 @@ mod exported {
             level: *mut u32,
         ) -> u32;
         pub fn rack_tape_allowance(level: u32, allowance: *mut u32) -> u32;
+        pub fn rack_stick_against_tape(
+            stick: u32,
+            count: u32,
+            readings: *const u32,
+            readings_len: usize,
+            figures: *mut u32,
+            figures_len: usize,
+        ) -> u32;
         pub fn rack_check_tables(
             count: u32,
             types: *const u32,
@@ -207,6 +219,19 @@ pub fn mean_level(count: u32, readings: &[u32], level: &mut u32) -> u32 {
 
 pub fn tape_allowance(level: u32, allowance: &mut u32) -> u32 {
     unsafe { exported::rack_tape_allowance(level, allowance) }
+}
+
+pub fn stick_against_tape(stick: u32, count: u32, readings: &[u32], figures: &mut [u32]) -> u32 {
+    unsafe {
+        exported::rack_stick_against_tape(
+            stick,
+            count,
+            readings.as_ptr(),
+            readings.len(),
+            figures.as_mut_ptr(),
+            figures.len(),
+        )
+    }
 }
 
 pub fn check_tables(tables: Tables) -> u32 {

@@ -48,6 +48,8 @@ fn constants_of_the_header() {
         ("BAD_LETTER", outside::BAD_LETTER as usize),
         ("FIELDS", outside::FIELDS),
         ("READINGS", outside::READINGS),
+        ("TAPE_READINGS", outside::TAPE_READINGS),
+        ("STICK", outside::STICK),
         ("TABLES", outside::TABLES),
         ("PLACES", outside::PLACES),
         ("FIGURES", outside::FIGURES),

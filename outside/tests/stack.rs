@@ -2,7 +2,7 @@
 
 use std::arch::asm;
 
-use outside::{Tables, ERRORS, FIELDS, FIGURES, PERMITTED, PLACES, TRAIN};
+use outside::{Tables, ERRORS, FIELDS, FIGURES, PERMITTED, PLACES, STICK, TAPE_READINGS, TRAIN};
 use reference::{sheets, ANSWER_BYTES};
 
 /// Bytes that the header says are enough.
@@ -60,12 +60,15 @@ fn stack_of(mut operation: &mut dyn FnMut() -> u32) -> usize {
 fn no_operation_takes_more_than_the_header_says() {
     let full = sheets::full_sheet(0);
     let mut answer = [0; ANSWER_BYTES];
-    let mut operations: [(&str, &mut dyn FnMut() -> u32); 18] = [
+    let mut operations: [(&str, &mut dyn FnMut() -> u32); 19] = [
         ("answer_sheet", &mut || outside::answer_sheet(&full, &mut answer).1),
         ("read_line", &mut || outside::read_line(b"E        1\n", &mut 0, &mut [0; FIELDS])),
         ("write_line", &mut || outside::write_line(b'C', &[1; FIELDS], &mut [0; 128], &mut 0)),
         ("mean_level", &mut || outside::mean_level(4, &[9, 7, 8, 1], &mut 0)),
         ("tape_allowance", &mut || outside::tape_allowance(1, &mut 0)),
+        ("stick_against_tape", &mut || {
+            outside::stick_against_tape(9, 20, &[7; TAPE_READINGS], &mut [0; STICK])
+        }),
         ("check_tables", &mut || outside::check_tables(TABLES)),
         ("checked_volume", &mut || outside::checked_volume(TABLES, 1, 9, 3, &mut 0)),
         ("expansion_of", &mut || outside::expansion_of(9_500, &mut 0)),

@@ -1,13 +1,15 @@
-//! The library's permitted error, laboratory's density and tape allowance: every line of the files of
-//! vectors.
+//! The library's permitted error, laboratory's density, tape allowance and stick against the tape: every
+//! line of the files of vectors.
 
 use outside::slices::Slices;
-use outside::{ERRORS, FIELDS, PERMITTED};
-use reference::conformance::vectors::{all, laboratory, permitted, read, tape};
+use outside::{ERRORS, FIELDS, PERMITTED, STICK};
+use reference::conformance::vectors::{all, laboratory, permitted, read, stick, tape};
+use reference::stick::StickCheck;
 
 const PERMITTED_ERROR: &str = include_str!("../../conformance/permitted-error.vectors");
 const LABORATORY_DENSITY: &str = include_str!("../../conformance/laboratory-density.vectors");
 const TAPE_ALLOWANCE: &str = include_str!("../../conformance/tape-allowance.vectors");
+const STICK_AGAINST_TAPE: &str = include_str!("../../conformance/stick-against-tape.vectors");
 
 /// What a place holds before it is lent: no figure.
 const LENT: u32 = 0xa5a5_a5a5;
@@ -68,6 +70,34 @@ fn expected_allowance(answer: &str) -> (u32, u32) {
     }
 }
 
+/// The number handed back, the lent places, and one that stands behind them.
+fn stick_against_tape(vector: &stick::Vector) -> (u32, [u32; STICK + 1]) {
+    let stick::Vector { stick, count, readings, .. } = vector;
+    let mut places = [LENT; STICK + 1];
+    let number = outside::stick_against_tape(*stick, *count, readings, &mut places[..STICK]);
+    (number, places)
+}
+
+/// The same from a line's answer: what stands on the way and a check, or a dash and a refusal.
+fn expected_check(answer: &str) -> (u32, [u32; STICK + 1]) {
+    let (on_the_way, seen) = answer.split_once(" | ").expect("an answer");
+    if on_the_way == "-" {
+        return (seen.parse().expect("a refusal"), [LENT; STICK + 1]);
+    }
+    let [difference, passes, allowance] =
+        seen.split(' ').collect::<Vec<&str>>().try_into().expect("three words");
+    let [sign, size, passes, allowance] = outside::stick::figures(StickCheck {
+        difference: difference.parse().expect("a difference"),
+        passes: match passes {
+            "yes" => true,
+            "no" => false,
+            word => panic!("{word} is neither yes nor no"),
+        },
+        allowance: allowance.parse().expect("an allowance"),
+    });
+    (0, [sign, size, passes, allowance, LENT])
+}
+
 #[test]
 fn every_line_of_the_permitted_error() {
     let vectors = read::<permitted::Vector>(PERMITTED_ERROR);
@@ -92,5 +122,14 @@ fn every_line_of_the_tape_allowance() {
     assert_eq!(vectors.len(), all::<tape::Vector>().len());
     for (vector, answer) in vectors {
         assert_eq!(tape_allowance(&vector), expected_allowance(answer), "{}", vector.name);
+    }
+}
+
+#[test]
+fn every_line_of_the_stick_against_the_tape() {
+    let vectors = read::<stick::Vector>(STICK_AGAINST_TAPE);
+    assert_eq!(vectors.len(), all::<stick::Vector>().len());
+    for (vector, answer) in vectors {
+        assert_eq!(stick_against_tape(&vector), expected_check(answer), "{}", vector.name);
     }
 }

@@ -1,10 +1,11 @@
 //! Times the proved code beside the reference and beside a program tuned by hand, on the same
-//! sheets, and the permitted error of a car, the density at 15 °C of a report and the tape allowance
-//! at a level beside the reference's, in one run of some seconds.
+//! sheets, and the permitted error of a car, the density at 15 °C of a report, the tape allowance at a
+//! level and a stick against the tape beside the reference's, in one run of some seconds.
 
 mod laboratory;
 mod permitted;
 mod sheets;
+mod stick;
 mod tape;
 mod timing;
 
@@ -13,4 +14,5 @@ fn main() {
     permitted::compare_all();
     laboratory::compare_all();
     tape::compare_all();
+    stick::compare_all();
 }

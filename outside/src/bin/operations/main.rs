@@ -7,6 +7,7 @@ mod figures;
 mod laboratory;
 mod lines;
 mod permitted;
+mod stick;
 mod tables;
 mod tally;
 mod trains;
@@ -33,6 +34,7 @@ fn main() -> ExitCode {
         lines::write_line(times).print(),
         figures::mean_level(times).print(),
         figures::tape_allowance(times).print(),
+        stick::stick_against_tape(times).print(),
         tables::check_tables(times).print(),
         tables::checked_volume(times).print(),
         figures::expansion_of().print(),
