@@ -6,6 +6,7 @@ ghost use Rattle.table.specs.Inner.{Good};
 ghost use Rattle.gauging.specs.Capacity.{capacityAnswer, volumeOn, volumeAnswer, volumeTold};
 ghost use Rattle.gauging.specs.Inner.{RowsFound};
 use base::MOST_ROWS;
+use base::wide;
 use gauging::Around;
 use gauging::Volume;
 use interpolating::in_units;
@@ -23,7 +24,7 @@ pub fn rows_around(
     levels: &[u32; PLACES],
     capacities: &[u32; PLACES],
     kind: u32,
-    level: u32,
+    level: u64,
 ) -> Around
     requires { ⌜ Good d (now levels) (now capacities) ⌝ }
     ensures { λ r. ⌜ RowsFound (tablesOf d (now (levels .entry)) (now (capacities .entry))) kind level r ⌝ }
@@ -41,7 +42,7 @@ pub fn rows_around(
             let mut low = skip_rows(levels, start, last, reach);
             while low < last {
                 let high = low + 1;
-                if reach <= levels[high] {
+                if reach <= wide(levels[high]) {
                     found = Around::Rows(neighbours(levels, capacities, low));
                     break 'tables;
                 }
@@ -61,7 +62,7 @@ fn capacity_at(
     levels: &[u32; PLACES],
     capacities: &[u32; PLACES],
     kind: u32,
-    level: u32,
+    level: u64,
 ) -> Volume
     requires { ⌜ Good d (now levels) (now capacities) ⌝ }
     ensures { λ r. ⌜ volumeTold r ≡ capacityAnswer (tablesOf d (now (levels .entry)) (now (capacities .entry))) kind level ⌝ }
@@ -79,7 +80,7 @@ pub fn volume_on(
     levels: &[u32; PLACES],
     capacities: &[u32; PLACES],
     kind: u32,
-    mean: u32,
+    mean: u64,
     water: u32,
 ) -> Volume
     requires { ⌜ Good d (now levels) (now capacities) ⌝ }
@@ -93,14 +94,15 @@ pub fn volume_on(
         return Volume::Refused(16);
     }
     let bottom = in_units(water);
-    if mean as u64 <= bottom {
+    if mean <= bottom {
         return Volume::Refused(17);
     }
-    let at_water = capacity_at(d, levels, capacities, kind, bottom as u32);
+    let at_water = capacity_at(d, levels, capacities, kind, bottom);
     let Volume::Hundredths(under) = at_water else {
         return at_water;
     };
-    Volume::Hundredths(full - under)
+    let oil = full - under;
+    Volume::Hundredths(oil)
 }
 
 // V0 on tables that may be any: 7 and 8 come before the other refusals.
@@ -118,5 +120,5 @@ pub fn checked_volume(
     if refusal != 0 {
         return Volume::Refused(refusal);
     }
-    volume_on(d, levels, capacities, kind, mean, water)
+    volume_on(d, levels, capacities, kind, mean as u64, water)
 }

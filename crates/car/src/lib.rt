@@ -22,7 +22,7 @@ pub struct Measured {
     pub kind: u32,
     pub grade: u32,
     pub stick: u32,
-    pub level: u32,
+    pub level: u64,
     pub water_level: u32,
     pub temperature: u32,
     pub density: Density15,

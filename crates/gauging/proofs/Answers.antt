@@ -8,11 +8,11 @@ use lib.Dec.{eqb}
 use lib.ListN.{getD}
 use borrow.Author.Tests.{ltb-false, leb-false, eqb-false, le-ltb, le-leb, lt-leb, ne-eqb}
 use Rattle.base.specs.Answer.{refuseIf, Verdict, accepts, refuses, first, firstNumber, Answer, figures, refusal, answer}
-use Rattle.base.specs.Limits.{inUnits, greatestCapacity}
+use Rattle.base.specs.Limits.{inUnits, highestLevel, greatestCapacity}
 use Rattle.base.proofs.Choice.{never, neither}
 use Rattle.base.proofs.Answer.{not-applied, refused-append, accepted-append, answer-figures, answer-refusal}
 use Rattle.table.specs.Table.{Table, rowOf, tablesTests, tablesVerdict, unknown, rowsOf, lastLevel}
-use Rattle.table.proofs.Rising.{tables-rising}
+use Rattle.table.proofs.Rising.{tables-rising, tables-last-most}
 use Rattle.gauging.specs.declared.Volume.{Volume}
 use Rattle.gauging.specs.declared.Volume.the-variants.{Hundredths, Refused}
 use Rattle.gauging.specs.declared.Neighbours.{Neighbours}
@@ -138,7 +138,10 @@ module _ (ts : List Table) (kind mean water : ℕ) where
   unfolding volumeOn
   volume-refused e h = answer-refusal (first (volumeTests ts kind mean water)) (v0 (rowsOf kind ts) mean water ∷ []) (sym (ap volumeTold h) ∙ e)
 
-  -- on tables that are not refused V0 is at most 200,000 dm³
+  -- on tables that are not refused: a mean level with a V0 is at most 3,600 mm, and V0 at most 200,000 dm³
+  pub mean-most : tablesVerdict ts ≡ accepts → {r : Volume} {v : ℕ} → volumeTold r ≡ volumeOn ts kind mean water → r ≡ Hundredths v → mean ≤ inUnits highestLevel
+  mean-most e t h = let p = volume-figures t h in omega (arith, p .0 .low, tables-last-most kind ts e (p .0 .known))
+
   pub volume-most : tablesVerdict ts ≡ accepts → {r : Volume} {v : ℕ} → volumeTold r ≡ volumeOn ts kind mean water → r ≡ Hundredths v → v ≤ 100 * greatestCapacity
   volume-most e t h =
       let p = volume-figures t h in

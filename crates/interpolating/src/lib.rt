@@ -8,6 +8,7 @@ ghost use Rattle.gauging.specs.Capacity.{interpolated};
 ghost use Rattle.gauging.specs.Inner.{gapAt, gapOf, Between, Reaches, RowBelow};
 use base::LEVEL_UNITS;
 use base::lesser;
+use base::wide;
 use gauging::Neighbours;
 use table::PLACES;
 
@@ -19,22 +20,25 @@ pub fn in_units(mm: u32) -> u64
 }
 
 // The least whole mm that reaches a level.
-pub fn least_mm(level: u32) -> u32
+pub fn least_mm(level: u64) -> u64
     ensures { λ r. ⌜ Reaches level r ⌝ }
 {
-    ((level as u64 + LEVEL_UNITS as u64 - 1) / LEVEL_UNITS as u64) as u32
+    if level == 0 {
+        return 0;
+    }
+    (level - 1) / LEVEL_UNITS as u64 + 1
 }
 
 // Of the rows `step` apart from `low` up to `last`, the last that does not reach `reach` mm; `low` where each after it does. The
 // loop is never left early, so that no branch hangs on the level.
-fn last_below(levels: &[u32; PLACES], low: usize, last: usize, step: usize, reach: u32) -> usize
+fn last_below(levels: &[u32; PLACES], low: usize, last: usize, step: usize, reach: u64) -> usize
     requires { ⌜ (low ≤ last) × (last < places) × (0 < step) × (step ≤ places) ⌝ }
     ensures { λ r. ⌜ RowBelow (now (levels .entry)) low last reach r ⌝ }
 {
     let mut found = low;
     let mut i = low + step;
     while i <= last {
-        if levels[i] < reach {
+        if wide(levels[i]) < reach {
             found = i;
         }
         i += step;
@@ -44,7 +48,7 @@ fn last_below(levels: &[u32; PLACES], low: usize, last: usize, step: usize, reac
 
 // A row from `low` to `last` that does not reach `reach` mm, and after which the next one does where the rows rise; `low` where
 // none is found. Blocks of 49 rows are passed first, then of 7, then rows.
-pub fn skip_rows(levels: &[u32; PLACES], low: usize, last: usize, reach: u32) -> usize
+pub fn skip_rows(levels: &[u32; PLACES], low: usize, last: usize, reach: u64) -> usize
     requires { ⌜ (low ≤ last) × (last < places) ⌝ }
     ensures { λ r. ⌜ RowBelow (now (levels .entry)) low last reach r ⌝ }
 {
@@ -68,14 +72,14 @@ pub fn neighbours(levels: &[u32; PLACES], capacities: &[u32; PLACES], low: usize
 }
 
 // R of 100 times the capacity at a level, linear between two neighbouring rows, in 0.01 dm³.
-pub fn interpolate(rows: Neighbours, level: u32) -> u32
+pub fn interpolate(rows: Neighbours, level: u64) -> u32
     requires { ⌜ Between (gapOf rows) level ⌝ }
     ensures { λ r. ⌜ r ≡ interpolated (gapOf rows) level ⌝ }
 {
     let passed = in_units(rows.low_level);
     let span = in_units(rows.high_level) - passed;
     let under = rows.low_capacity;
-    let rise = ((rows.high_capacity - under) as u64) * (level as u64 - passed);
+    let rise = ((rows.high_capacity - under) as u64) * (level - passed);
     // what the lower row has is whole, so only the rise is divided: a small number, for which a division is quick
     let part = base::round_half_up(100 * rise, span) as u32;
     100 * under + part

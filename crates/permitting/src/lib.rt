@@ -43,7 +43,7 @@ fn level_term_on(
         ⌝ }
     ensures { λ r. ⌜ r ≡ levelTermOf (tablesOf d (now (levels .entry)) (now (capacities .entry))) (measured car) errors ⌝ }
 {
-    match capacity::rows_around(d, levels, capacities, car.kind, six.level) {
+    match capacity::rows_around(d, levels, capacities, car.kind, six.level as u64) {
         Around::Rows(rows) => terms::level_term(errors.level, rows, six.v0),
         Around::Refused(_) => 0,
     }

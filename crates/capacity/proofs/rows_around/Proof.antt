@@ -217,11 +217,14 @@ loop-holds c =
 add-high : tie.Need-add-high Inv-loop μ-loop Inv-tables μ-tables
 add-high c = search needs
 
-mul-if2 : tie.Need-mul-if2 Inv-loop μ-loop Inv-tables μ-tables
-mul-if2 c = search needs
+mul-wide : tie.Need-mul-wide Inv-loop μ-loop Inv-tables μ-tables
+mul-wide c = search needs
 
-element-copy-out-if2 : tie.Need-element-copy-out-if2 Inv-loop μ-loop Inv-tables μ-tables
-element-copy-out-if2 c = search needs
+element-copy-out-wide : tie.Need-element-copy-out-wide Inv-loop μ-loop Inv-tables μ-tables
+element-copy-out-wide c = search needs
+
+wide-requires : tie.Need-wide-requires Inv-loop μ-loop Inv-tables μ-tables
+wide-requires c κs = search needs
 
 neighbours-requires : tie.Need-neighbours-requires Inv-loop μ-loop Inv-tables μ-tables
 neighbours-requires c κs = omega arith
@@ -231,8 +234,8 @@ loop-less c = search needs
 
 loop-again : tie.Need-loop-again Inv-loop μ-loop Inv-tables μ-tables
 loop-again c =
-    let t = c .before .before in
-    let passed : inUnits (row (begun t) (low t + 1) .level) < begun t .args .level = omega (arith, c .if2 .left, reaches (turn t)) in (
+    let t = c .before .before .before in
+    let passed : inUnits (row (begun t) (low t + 1) .level) < begun t .args .level = omega (arith, c .if2 .left, c .before .wide .ensures .same, reaches (turn t)) in (
       t .before .loop .inv .0,
       omega arith,
       λ h. passed,
@@ -264,8 +267,8 @@ returns c =
 
 returns-2 : tie.Need-returns-2 Inv-loop μ-loop Inv-tables μ-tables
 returns-2 c =
-    let t = c .before .before .before in
-    let h : begun t .args .level ≤ inUnits (gap t .high .level) = omega (arith, c .before .if2 .taken, reaches (turn t)) in
+    let t = c .before .before .before .before in
+    let h : begun t .args .level ≤ inUnits (gap t .high .level) = omega (arith, c .before .if2 .taken, c .before .before .wide .ensures .same, reaches (turn t)) in
     let e : gapOf (c .neighbours .result) ≡ gap t = c .neighbours .ensures in
     record {
       told = ap (λ (g : Gap). figures (gapNumbers g)) e ∙ answers t h;
@@ -307,8 +310,9 @@ rows-around-spec =
     skip-rows-requires
     loop-holds
     add-high
-    mul-if2
-    element-copy-out-if2
+    mul-wide
+    element-copy-out-wide
+    wide-requires
     neighbours-requires
     loop-less
     loop-again

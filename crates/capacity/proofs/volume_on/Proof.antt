@@ -73,9 +73,6 @@ returns-3 c =
     let f = full (c .before .before .before) in
     sym (water-refused (all s) (s .args .kind) (s .args .mean) (s .args .water) (f .known) (c .before .before .if1 .left) (f .low) (omega (arith, c .if2 .taken, c .before .in-units .ensures)))
 
-cast-capacity-at : tie.Need-cast-capacity-at
-cast-capacity-at c = search needs
-
 capacity-at-requires-2 : tie.Need-capacity-at-requires-2
 capacity-at-requires-2 c κs = search needs
 
@@ -93,8 +90,8 @@ returns-4 c =
     let a = passed (w .before) in
     absurd (not-refused (all s) (s .args .kind) (inUnits (s .args .water)) (a .known) (omega (arith, a .low, a .above-water)) (at-water w) (c .enum-told2 .given .1))
 
-sub-t14 : tie.Need-sub-t14
-sub-t14 c =
+sub-oil : tie.Need-sub-oil
+sub-oil c =
     let e = c .before .before .before .before in
     let s = e .before .before .before .before .before .before .before in
     let a = passed e in
@@ -124,10 +121,9 @@ volume-on-spec =
     returns-2
     in-units-requires
     returns-3
-    cast-capacity-at
     capacity-at-requires-2
     enum-known-at-water
     enum-told-2
     returns-4
-    sub-t14
+    sub-oil
     returns-5)

@@ -22,11 +22,14 @@ add-i c = search needs
 loop-holds : tie.Need-loop-holds Inv-loop μ-loop
 loop-holds c = (omega arith, omega arith, record { from = omega arith; to = omega arith; below = λ h. absurd (omega arith) })
 
-mul-if1 : tie.Need-mul-if1 Inv-loop μ-loop
-mul-if1 c = search needs
+mul-wide : tie.Need-mul-wide Inv-loop μ-loop
+mul-wide c = search needs
 
-element-copy-out-if1 : tie.Need-element-copy-out-if1 Inv-loop μ-loop
-element-copy-out-if1 c = search needs
+element-copy-out-wide : tie.Need-element-copy-out-wide Inv-loop μ-loop
+element-copy-out-wide c = search needs
+
+wide-requires : tie.Need-wide-requires Inv-loop μ-loop
+wide-requires c κs = search needs
 
 add-i-2 : tie.Need-add-i-2 Inv-loop μ-loop
 add-i-2 c = search needs
@@ -36,12 +39,12 @@ loop-less c = search needs
 
 loop-again : tie.Need-loop-again Inv-loop μ-loop
 loop-again c =
-    let a = c .before .before .before .before .args in
-    let at = c .before .before .before .loop in (
+    let a = c .before .before .before .before .before .args in
+    let at = c .before .before .before .before .loop in (
       omega arith,
       omega arith,
       ⊎-elim
-          (λ w. subst (RowBelow (now (a .levels)) (a .low) (a .last) (a .reach)) (sym (w .1)) (record { from = at .inv .1; to = c .before .before .loop-test .taken; below = λ h. w .0 .taken }))
+          (λ w. subst (RowBelow (now (a .levels)) (a .low) (a .last) (a .reach)) (sym (w .1)) (record { from = at .inv .1; to = c .before .before .before .loop-test .taken; below = λ h. omega (arith, w .0 .taken, c .before .wide .ensures .same) }))
           (λ w. subst (RowBelow (now (a .levels)) (a .low) (a .last) (a .reach)) (sym (w .1)) (at .inv .2))
           (c .if1 .came),
     )
@@ -57,8 +60,9 @@ last-below-spec =
     μ-loop
     add-i
     loop-holds
-    mul-if1
-    element-copy-out-if1
+    mul-wide
+    element-copy-out-wide
+    wide-requires
     add-i-2
     loop-less
     loop-again

@@ -5,7 +5,7 @@ use borrow.Author.Needs.{needs}
 use denote.Ref.{now}
 use Rattle.table.specs.Table.{Table}
 use Rattle.table.specs.Layout.{tablesOf}
-use Rattle.gauging.proofs.Answers.{volume-most}
+use Rattle.gauging.proofs.Answers.{mean-most, volume-most}
 use Rattle.car.proofs.Accepted.{grade-known}
 use Rattle.car.proofs.Answers.{volume-away, volume-known}
 use Rattle.working.proofs.work_measured.Statement.{statement}
@@ -28,6 +28,7 @@ from-volume-requires c κs =
     let v = c .before .before .before in
     let s = v .before in
     let m = s .args .m in (
+      mean-most (all s) (m .kind) (m .level) (m .«water_level») (s .pre .0 .accepted) (v .volume-on .ensures) (c .before .v0 .given .1),
       volume-most (all s) (m .kind) (m .level) (m .«water_level») (s .pre .0 .accepted) (v .volume-on .ensures) (c .before .v0 .given .1),
       grade-known (all s) m (s .pre .1),
     )
