@@ -1,5 +1,5 @@
 /*
- * Prints how far a stick level of 1500 mm lies from the mean of sixteen tape readings, and whether it passes.
+ * Prints how far a stick level of 1500.4 mm lies from the mean of sixteen tape readings, and whether it passes.
  * Ends with the refusal as its status where there is one.
  *
  * At the top of the repository:
@@ -14,13 +14,16 @@
 
 /* Sixteen readings in mm; the last four places are not looked at. */
 static const uint32_t readings[RACK_TAPE_READINGS] = {
-    1500, 1500, 1500, 1500, 1500, 1500, 1500, 1500, 1500, 1500, 1500, 1500, 1500, 1500, 1501, 1501
+    1500, 1500, 1500, 1500, 1500, 1500, 1500, 1500, 1500, 1500, 1501, 1501, 1501, 1501, 1501, 1501
 };
+
+/* The stick level in 0.1 mm. */
+static const uint64_t stick = 15004;
 
 int main(void)
 {
     uint32_t figures[RACK_STICK];
-    uint32_t refusal = rack_stick_against_tape(1500, 16, readings, RACK_TAPE_READINGS, figures, RACK_STICK);
+    uint32_t refusal = rack_stick_against_tape(stick, 16, readings, RACK_TAPE_READINGS, figures, RACK_STICK);
     if (refusal != 0) {
         fprintf(stderr, "stick: refusal %" PRIu32 "\n", refusal);
         return (int)refusal;

@@ -1,4 +1,4 @@
-//! Prints how far a stick level of 1500 mm lies from the mean of sixteen tape readings, and whether it passes.
+//! Prints how far a stick level of 1500.4 mm lies from the mean of sixteen tape readings, and whether it passes.
 //! Ends with the refusal as its status where there is one.
 //!
 //! At the top of the repository:
@@ -14,7 +14,7 @@ const STICK: usize = 4;
 
 extern "C" {
     fn rack_stick_against_tape(
-        stick: u32,
+        stick: u64,
         count: u32,
         readings: *const u32,
         readings_len: usize,
@@ -23,8 +23,9 @@ extern "C" {
     ) -> u32;
 }
 
-/// The sign, size, pass and allowance of a stick level against as many readings, in mm; or the refusal.
-fn stick_against_tape(stick: u32, given: &[u32]) -> Result<[u32; STICK], u32> {
+/// The sign, size, pass and allowance of a stick level, in 0.1 mm, against as many readings, in mm; or the
+/// refusal.
+fn stick_against_tape(stick: u64, given: &[u32]) -> Result<[u32; STICK], u32> {
     let mut readings = [0; TAPE_READINGS];
     readings[..given.len()].copy_from_slice(given);
     let mut figures = [0; STICK];
@@ -47,8 +48,8 @@ fn stick_against_tape(stick: u32, given: &[u32]) -> Result<[u32; STICK], u32> {
 
 fn main() -> ExitCode {
     let mut readings = [1_500; 16];
-    readings[14..].fill(1_501);
-    match stick_against_tape(1_500, &readings) {
+    readings[10..].fill(1_501);
+    match stick_against_tape(15_004, &readings) {
         Ok([sign, size, passes, allowance]) => {
             let sign = if sign == 1 { "-" } else { "" };
             let passes = if passes == 1 { "passes" } else { "does not pass" };

@@ -21,9 +21,13 @@
  * Stack: 32,768 bytes are enough for every function; rack_answer_sheet takes about 18,000 of them,
  * rack_permitted_error about 14,000, each other function less than 2,000.
  *
- * Units: levels in mm, capacities in dm3 at 20 C, volumes in 0.01 dm3, temperatures in 0.1 C,
- * densities in 0.1 kg/m3, water, impurities and the share of oil in 0.01 %, masses in kg. Given errors
- * and the permitted error are in 0.0001 %, but errors of temperatures in 0.1 C and of the level in 0.1 mm.
+ * Units: a mean level, a stick level and the level of the tape allowance in 0.1 mm; readings, those of the
+ * tape too, water levels and the levels of a table's rows in mm; capacities in dm3 at 20 C, volumes in
+ * 0.01 dm3, temperatures in 0.1 C, densities in 0.1 kg/m3, water, impurities and the share of oil in
+ * 0.01 %, masses in kg. Given errors and the permitted error are in 0.0001 %, but errors of temperatures in
+ * 0.1 C and of the level in 0.1 mm.
+ * A level in 0.1 mm that is handed over by itself, either way, has 64 bits; that of an accepted car is at
+ * most 36,000.
  */
 #ifndef RACK_H
 #define RACK_H
@@ -96,26 +100,27 @@ uint32_t rack_write_line(uint8_t letter,
                          uint8_t *out, size_t out_len,
                          size_t *length);
 
-/* The mean level of `count` readings, 2 or 4, of `readings` [RACK_READINGS]. Refusals 14, 15, 23, 16. */
+/* The mean level, in 0.1 mm, of `count` readings, 2 or 4, of `readings` [RACK_READINGS], in mm: ten times the
+   mean, rounded once. Refusals 14, 15, 23, 16 (the mean is 0). */
 uint32_t rack_mean_level(uint32_t count,
                          const uint32_t *readings, size_t readings_len,
-                         uint32_t *level);
+                         uint64_t *level);
 
-/* The tape allowance at a level, in 0.01 mm: 30 for the first metre begun, 15 for each further one.
-   Refusal 16 (1 to 3,600). */
-uint32_t rack_tape_allowance(uint32_t level, uint32_t *allowance);
+/* The tape allowance at a level in 0.1 mm, in 0.01 mm: 30 for the first metre begun, 15 for each further
+   one, which 0.1 mm begins. Refusal 16 (10 to 36,000). */
+uint32_t rack_tape_allowance(uint64_t level, uint32_t *allowance);
 
 /*
- * A stick level against the mean of the tape: the first `count`, 10 to 20, of `readings`
- * [RACK_TAPE_READINGS]; the other places are not looked at. `figures` [RACK_STICK] gets
+ * A stick level in 0.1 mm against the mean of the tape: the first `count`, 10 to 20, of `readings`
+ * [RACK_TAPE_READINGS], in mm; the other places are not looked at. `figures` [RACK_STICK] gets
  *   [0]  1 where the stick level is below the mean, so that the difference, stick level minus mean, is
  *        negative; else 0;
  *   [1]  the size of the difference in 0.01 mm, a half going away from zero; where it is 0, so is [0];
  *   [2]  1 where the stick passes: before rounding it is at most 2 mm from the mean, either way; else 0;
  *   [3]  the tape allowance at the stick level, in 0.01 mm.
- * Refusals 28 (10 to 20 readings), 29 (1 to 3,600 for each of these and for the stick level).
+ * Refusals 28 (10 to 20 readings), 29 (1 to 3,600 for each of these, 10 to 36,000 for the stick level).
  */
-uint32_t rack_stick_against_tape(uint32_t stick, uint32_t count,
+uint32_t rack_stick_against_tape(uint64_t stick, uint32_t count,
                                  const uint32_t *readings, size_t readings_len,
                                  uint32_t *figures, size_t figures_len);
 
@@ -132,13 +137,14 @@ uint32_t rack_check_tables(uint32_t count,
                            const uint32_t *levels, size_t levels_len,
                            const uint32_t *capacities, size_t capacities_len);
 
-/* V0 between a water level and a mean level on the table of a type. Refusals 7, 8, 12, 16, 17. */
+/* V0 between a water level, in mm, and a mean level, in 0.1 mm, on the table of a type. Refusals 7, 8, 12,
+   16, 17. */
 uint32_t rack_checked_volume(uint32_t count,
                              const uint32_t *types, size_t types_len,
                              const uint32_t *rows, size_t rows_len,
                              const uint32_t *levels, size_t levels_len,
                              const uint32_t *capacities, size_t capacities_len,
-                             uint32_t car_type, uint32_t level, uint32_t water_level,
+                             uint32_t car_type, uint64_t level, uint32_t water_level,
                              uint32_t *volume);
 
 /* B of step 4, in 0.000000001 per C, of a density at 15 C. Refusal 19. */
@@ -168,7 +174,7 @@ uint32_t rack_oil_share_any_grade(uint32_t water, uint32_t impurities, uint32_t 
 
 /*
  * A car alone. `car` [RACK_FIELDS] has the numbers of its C line in their order; `figures`
- * [RACK_FIGURES] gets those of its A line: car number, mean level, V0, V15, gross, net.
+ * [RACK_FIGURES] gets those of its A line: car number, mean level in 0.1 mm, V0, V15, gross, net.
  * Refusals 7, 8, 10, 12 to 15, 23, 16 to 21.
  */
 uint32_t rack_work_out(uint32_t count,

@@ -51,11 +51,12 @@ pub const MARKS: &[(&str, &str, &str, &str)] = &[
     (
         "table",
         "«pub fn last_level»",
-        "pub fn fraction(&self, level: u32) -> (u64, u64) { \
-         let above = self.rows.partition_point(|row| row.level < level).max(1); \
+        "pub fn fraction(&self, level: u64) -> (u64, u64) { \
+         let tenths = |level: u32| 10 * u64::from(level); \
+         let above = self.rows.partition_point(|row| tenths(row.level) < level).max(1); \
          let (lower, upper) = (self.rows[above - 1], self.rows[above]); \
-         let step = u64::from(upper.level - lower.level); \
-         let rise = u64::from(upper.capacity - lower.capacity) * u64::from(level - lower.level); \
+         let step = tenths(upper.level - lower.level); \
+         let rise = u64::from(upper.capacity - lower.capacity) * (level - tenths(lower.level)); \
          (100 * (u64::from(lower.capacity) * step + rise), step) }",
         "",
     ),

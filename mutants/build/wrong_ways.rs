@@ -547,29 +547,52 @@ pub const EDITS: &[Edit] = &[
     },
     Edit {
         module: "table",
-        old: "«100 * u64::from(lower.capacity) + nearest(100 * rise, u64::from(upper.level - lower.level))»",
+        old: "«100 * u64::from(lower.capacity) + nearest(100 * rise, in_tenths(upper.level - lower.level))»",
         new: &[
             ("capacity in single floating point", "(100.0 * (lower.capacity as f32 \
-              + (upper.capacity - lower.capacity) as f32 * (level - lower.level) as f32 \
-              / (upper.level - lower.level) as f32)).round() as u64"),
+              + (upper.capacity - lower.capacity) as f32 * (level - in_tenths(lower.level)) as f32 \
+              / in_tenths(upper.level - lower.level) as f32)).round() as u64"),
             ("capacity in double floating point, step first", "(100.0 * (f64::from(lower.capacity) \
-              + f64::from(upper.capacity - lower.capacity) / f64::from(upper.level - lower.level) \
-              * f64::from(level - lower.level))).round() as u64"),
+              + f64::from(upper.capacity - lower.capacity) / in_tenths(upper.level - lower.level) as f64 \
+              * (level - in_tenths(lower.level)) as f64)).round() as u64"),
             ("capacity in double floating point", "(100.0 * (f64::from(lower.capacity) \
-              + f64::from(upper.capacity - lower.capacity) * f64::from(level - lower.level) \
-              / f64::from(upper.level - lower.level))).round() as u64"),
+              + f64::from(upper.capacity - lower.capacity) * (level - in_tenths(lower.level)) as f64 \
+              / in_tenths(upper.level - lower.level) as f64)).round() as u64"),
+            ("capacity at mm in double floating point", "{ let mm = level as f64 / 10.0; \
+              (100.0 * (f64::from(lower.capacity) + f64::from(upper.capacity - lower.capacity) \
+              * (mm - f64::from(lower.level)) / f64::from(upper.level - lower.level))).round() as u64 }"),
             ("capacity in whole dm³", "100 * (u64::from(lower.capacity) \
-              + nearest(rise, u64::from(upper.level - lower.level)))"),
+              + nearest(rise, in_tenths(upper.level - lower.level)))"),
             ("the lower row's capacity", "100 * u64::from(lower.capacity)"),
             ("the upper row's capacity", "100 * u64::from(upper.capacity)"),
-            ("the nearer row's capacity", "100 * u64::from(if level - lower.level \
-              < upper.level - level { lower.capacity } else { upper.capacity })"),
+            ("the nearer row's capacity", "100 * u64::from(if level - in_tenths(lower.level) \
+              < in_tenths(upper.level) - level { lower.capacity } else { upper.capacity })"),
             ("from the upper row down", "100 * u64::from(upper.capacity) - nearest(100 \
-              * u64::from(upper.capacity - lower.capacity) * u64::from(upper.level - level), \
-              u64::from(upper.level - lower.level))"),
+              * u64::from(upper.capacity - lower.capacity) * (in_tenths(upper.level) - level), \
+              in_tenths(upper.level - lower.level))"),
             ("capacity step rounded to 0.01 dm³ for a mm", "100 * u64::from(lower.capacity) \
+              + nearest(nearest(100 * u64::from(upper.capacity - lower.capacity), \
+              u64::from(upper.level - lower.level)) * (level - in_tenths(lower.level)), 10)"),
+            ("capacity step rounded to 0.01 dm³ for a tenth", "100 * u64::from(lower.capacity) \
               + nearest(100 * u64::from(upper.capacity - lower.capacity), \
-              u64::from(upper.level - lower.level)) * u64::from(level - lower.level)"),
+              in_tenths(upper.level - lower.level)) * (level - in_tenths(lower.level))"),
+            ("step not times ten", "100 * u64::from(lower.capacity) \
+              + nearest(100 * rise, u64::from(upper.level - lower.level))"),
+            ("between capacities of whole mm", "{ let at = |mm: u64| nearest(100 * (u64::from(lower.capacity) \
+              * u64::from(upper.level - lower.level) + u64::from(upper.capacity - lower.capacity) \
+              * (mm - u64::from(lower.level))), u64::from(upper.level - lower.level)); \
+              let (mm, tenths) = (level / 10, level % 10); \
+              at(mm) + if tenths == 0 { 0 } else { nearest((at(mm + 1) - at(mm)) * tenths, 10) } }"),
+        ],
+    },
+    Edit {
+        module: "table",
+        old: "«self.rows.partition_point(|row| in_tenths(row.level) < level)»",
+        new: &[
+            ("rows not times ten", "self.rows.partition_point(|row| u64::from(row.level) < level)"),
+            ("by the level cut to mm", "self.rows.partition_point(|row| u64::from(row.level) < level / 10)"),
+            ("by the nearest mm", "self.rows.partition_point(|row| u64::from(row.level) < (level + 5) / 10)"),
+            ("by the next mm", "self.rows.partition_point(|row| u64::from(row.level) < level.div_ceil(10))"),
         ],
     },
     Edit {
@@ -583,6 +606,7 @@ pub const EDITS: &[Edit] = &[
             ("all readings agree", "readings.iter().max().unwrap() - readings.iter().min().unwrap() \
               <= AGREEMENT"),
             ("compared in 16 bits", "(first as u16).abs_diff(second as u16) <= 1"),
+            ("compared in tenths", "in_tenths(first).abs_diff(in_tenths(second)) <= 1"),
         ],
     },
     Edit {
@@ -607,17 +631,17 @@ pub const EDITS: &[Edit] = &[
               mean_of(&[second, third, fourth]) }"),
             ("mean of the middle two", "{ three_together(readings)?; \
               mean_of(&crate::wrong::sorted(readings)[1..3]) }"),
-            ("the second lowest", "{ three_together(readings)?; crate::wrong::sorted(readings)[1] }"),
-            ("the second highest", "{ three_together(readings)?; crate::wrong::sorted(readings)[2] }"),
-            ("the middle of the three closest", "three_together(readings)?[1]"),
+            ("the second lowest", "{ three_together(readings)?; in_tenths(crate::wrong::sorted(readings)[1]) }"),
+            ("the second highest", "{ three_together(readings)?; in_tenths(crate::wrong::sorted(readings)[2]) }"),
+            ("the middle of the three closest", "in_tenths(three_together(readings)?[1])"),
             ("mean of the closest two", "{ three_together(readings)?; \
               mean_of(&crate::wrong::closest_two(readings)) }"),
             ("mean of lowest and highest of the three", "{ let three = three_together(readings)?; \
               mean_of(&[three[0], three[2]]) }"),
             ("in single floating point", "{ let three = three_together(readings)?; \
-              ((three[0] as f32 + three[1] as f32 + three[2] as f32) / 3.0).round() as u32 }"),
+              ((three[0] as f32 + three[1] as f32 + three[2] as f32) / 3.0 * 10.0).round() as u64 }"),
             ("rounded twice", "{ let three = three_together(readings)?; \
-              nearest(nearest(u64::from(three[0] + three[1]), 2) * 2 + u64::from(three[2]), 3) as u32 }"),
+              nearest(10 * (nearest(u64::from(three[0] + three[1]), 2) * 2 + u64::from(three[2])), 3) }"),
             ("the three nearest to the mean of all four", "{ three_together(readings)?; \
               mean_of(&crate::wrong::nearest_three(readings)) }"),
         ],
@@ -657,7 +681,9 @@ pub const EDITS: &[Edit] = &[
             ("span of the middle two", "crate::wrong::span(&crate::wrong::sorted(readings)[1..3]) > SPAN"),
             ("span of the closest two", "crate::wrong::span(&crate::wrong::closest_two(readings)) > SPAN"),
             ("span between neighbours", "three[1] - low > SPAN || high - three[1] > SPAN"),
-            ("span from the mean", "mean_of(&three) - low > SPAN || high - mean_of(&three) > SPAN"),
+            ("span from the mean", "mean_of(&three) - in_tenths(low) > in_tenths(SPAN) \
+              || in_tenths(high) - mean_of(&three) > in_tenths(SPAN)"),
+            ("span in tenths", "in_tenths(high) - in_tenths(low) > u64::from(SPAN)"),
             ("span in 8 bits", "(high - low) as u8 > 3"),
             ("span in 16 bits", "(high - low) as u16 > 3"),
             ("span by a share of the level", "500 * u64::from(high - low) > u64::from(low)"),
@@ -692,13 +718,13 @@ pub const EDITS: &[Edit] = &[
         module: "level",
         old: "2 | 4 if agree => «mean_of(&[first, second])»",
         new: &[
-            ("the first reading", "first"),
-            ("the second reading", "second"),
+            ("the first reading", "in_tenths(first)"),
+            ("the second reading", "in_tenths(second)"),
             ("mean of all given", "if given == 4 { mean_of(&readings) } \
               else { mean_of(&[first, second]) }"),
             ("three closest of four", "if given == 4 { mean_of(&three_closest(readings)) } \
               else { mean_of(&[first, second]) }"),
-            ("in single floating point", "((first as f32 + second as f32) / 2.0).round() as u32"),
+            ("in single floating point", "((first as f32 + second as f32) / 2.0 * 10.0).round() as u64"),
             ("23 though the first two agree", "{ if given == 4 { three_together(readings)?; } \
               mean_of(&[first, second]) }"),
             ("23 by all four though the first two agree", "{ if given == 4 \
@@ -726,78 +752,159 @@ pub const EDITS: &[Edit] = &[
     },
     Edit {
         module: "level",
-        old: "if «!(1..=HIGHEST).contains(&level)» {",
+        old: "«10 * u64::from(level)»",
         new: &[
-            ("0 answered", "if level == 0 { return Ok(30); } level > HIGHEST"),
-            ("16 above 4,000", "!(1..=4_000).contains(&level)"),
-            ("four metres at most", "if level > HIGHEST { return Ok(75); } level == 0"),
-            ("a fifth metre", "if level > HIGHEST { return Ok(15 + 15 * metres(level)); } level == 0"),
-            ("16 as an allowance", "if !(1..=HIGHEST).contains(&level) { return Ok(16); } false"),
-            ("level in 16 bits", "if level > 0xffff { return tape_allowance(level & 0xffff); } \
-              !(1..=HIGHEST).contains(&level)"),
-            ("level in 31 bits", "if level > 0x7fff_ffff \
-              { return tape_allowance(level & 0x7fff_ffff); } !(1..=HIGHEST).contains(&level)"),
-            ("level without its sign", "if level > u32::MAX - HIGHEST \
-              { return tape_allowance(level.wrapping_neg()); } !(1..=HIGHEST).contains(&level)"),
+            ("in 16 bits", "u64::from((level as u16).wrapping_mul(10))"),
+            ("in 16 bits, then times ten", "10 * u64::from(level as u16)"),
+            ("in 18 bits", "(10 * u64::from(level)) & 0x3ffff"),
+            ("in 24 bits", "(10 * u64::from(level)) & 0xff_ffff"),
+            ("in 32 bits", "u64::from(level.wrapping_mul(10))"),
         ],
     },
     Edit {
         module: "level",
-        old: "contains(&level) {\n        «return Err(Refusal::Level);»",
-        new: &[("17 in place of 16", "return Err(Refusal::WaterLevel);")],
+        old: "«nearest(sum, readings.len() as u64)»",
+        new: &[
+            ("rounded to mm before times ten", "10 * nearest(sum / 10, readings.len() as u64)"),
+            ("cut to mm before times ten", "10 * (sum / 10 / readings.len() as u64)"),
+            ("up to mm before times ten", "10 * (sum / 10).div_ceil(readings.len() as u64)"),
+            ("rounded to tenths, then to mm", "10 * nearest(nearest(sum, readings.len() as u64), 10)"),
+            ("to the even mm", "{ let twice = sum / 5 / readings.len() as u64; \
+              10 * (twice / 2 + u64::from(twice % 4 == 3)) }"),
+            ("in mm", "nearest(sum / 10, readings.len() as u64)"),
+            ("in hundredths", "nearest(10 * sum, readings.len() as u64)"),
+            ("doubled in 32 bits", "u64::from((2 * sum + readings.len() as u64) as u32 \
+              / (2 * readings.len() as u32))"),
+            ("doubled in 31 bits", "((2 * sum + readings.len() as u64) & 0x7fff_ffff) \
+              / (2 * readings.len() as u64)"),
+            ("to half a mm", "5 * nearest(sum, 5 * readings.len() as u64)"),
+            ("to two tenths", "2 * nearest(sum, 2 * readings.len() as u64)"),
+            ("thirds cut", "sum / readings.len() as u64"),
+        ],
+    },
+    Edit {
+        module: "level",
+        old: "if «!has_allowance(level)» {",
+        new: &[
+            ("0 answered", "if level == 0 { return Ok(30); } !has_allowance(level)"),
+            ("1 tenth answered", "if level == 1 { return Ok(30); } !has_allowance(level)"),
+            ("9 tenths answered", "if level == 9 { return Ok(30); } !has_allowance(level)"),
+            ("below 1 mm answered", "!(1..=36_000).contains(&level)"),
+            ("bounds in mm", "!(1..=3_600).contains(&level)"),
+            ("bounds of the level cut to mm", "if (36_001..36_010).contains(&level) { return Ok(75); } \
+              !has_allowance(level)"),
+            ("bounds of the nearest mm", "if (36_001..36_005).contains(&level) { return Ok(75); } \
+              if (5..10).contains(&level) { return Ok(30); } !has_allowance(level)"),
+            ("bounds of the next mm", "if (1..10).contains(&level) { return Ok(30); } \
+              !has_allowance(level)"),
+            ("whole mm only", "level % 10 != 0 || !has_allowance(level)"),
+            ("16 above 40,000", "!(10..=40_000).contains(&level)"),
+            ("four metres at most", "if level > 36_000 { return Ok(75); } level < 10"),
+            ("a fifth metre", "if level > 36_000 { return Ok((15 + 15 * metres(level)) as u32); } level < 10"),
+            ("16 as an allowance", "if !has_allowance(level) { return Ok(16); } false"),
+            ("level in 16 bits", "if level > 0xffff { return tape_allowance(level & 0xffff); } \
+              !has_allowance(level)"),
+            ("level in 31 bits", "if level > 0x7fff_ffff \
+              { return tape_allowance(level & 0x7fff_ffff); } !has_allowance(level)"),
+            ("level in 32 bits", "if level > 0xffff_ffff \
+              { return tape_allowance(level & 0xffff_ffff); } !has_allowance(level)"),
+            ("level in 33 bits", "if level >> 33 > 0 \
+              { return tape_allowance(level & 0x1_ffff_ffff); } !has_allowance(level)"),
+            ("level in 48 bits", "if level >> 48 > 0 \
+              { return tape_allowance(level & 0xffff_ffff_ffff); } !has_allowance(level)"),
+            ("level in 63 bits", "if level >> 63 > 0 \
+              { return tape_allowance(level & (u64::MAX >> 1)); } !has_allowance(level)"),
+            ("level without its sign in 32 bits", "if level as u32 > u32::MAX - 36_000 \
+              { return tape_allowance((level as u32).wrapping_neg().into()); } !has_allowance(level)"),
+            ("level without its sign", "if level > u64::MAX - 36_000 \
+              { return tape_allowance(level.wrapping_neg()); } !has_allowance(level)"),
+        ],
+    },
+    Edit {
+        module: "level",
+        old: "has_allowance(level) {\n        «return Err(Refusal::Level);»",
+        new: &[
+            ("17 in place of 16", "return Err(Refusal::WaterLevel);"),
+            ("29 in place of 16", "return Err(Refusal::StickOrTapeLevel);"),
+        ],
     },
     Edit {
         module: "level",
         old: "Ok(«ALLOWANCES[metres(level) as usize - 1]»)",
         new: &[
-            ("0.15 for the first metre too", "15 * metres(level)"),
-            ("0.30 for every metre", "30 * metres(level)"),
-            ("L for L - 1", "30 + 15 * metres(level)"),
+            ("0.15 for the first metre too", "15 * metres(level) as u32"),
+            ("0.30 for every metre", "30 * metres(level) as u32"),
+            ("L for L - 1", "30 + 15 * metres(level) as u32"),
             ("0.30 at every level", "30"),
             ("three metres at most", "ALLOWANCES()[(metres(level) as usize - 1).min(2)]"),
-            ("linear within a metre", "30 + 15 * level.saturating_sub(1_000) / 1_000"),
-            ("cut in floating point", "(100.0 * (0.3 + 0.15 * f64::from(metres(level) - 1))) as u32"),
+            ("linear within a metre", "30 + (15 * level.saturating_sub(10_000) / 10_000) as u32"),
+            ("cut in floating point", "(100.0 * (0.3 + 0.15 * (metres(level) - 1) as f64)) as u32"),
         ],
     },
     Edit {
         module: "level",
-        old: "«level.div_ceil(1_000)»",
+        old: "«level.div_ceil(METRE)»",
         new: &[
-            ("whole metres", "(level / 1_000).max(1)"),
-            ("whole metres and one", "level / 1_000 + 1"),
-            ("nearest metre", "((level + 500) / 1_000).max(1)"),
-            ("second metre as the third", "(level.div_ceil(1_000) + u32::from(level > 1_000)).min(4)"),
-            ("thousandths in single floating point", "(level as f32 * 0.001).ceil() as u32"),
+            ("whole metres", "(level / 10_000).max(1)"),
+            ("whole metres and one", "level / 10_000 + 1"),
+            ("nearest metre", "((level + 5_000) / 10_000).max(1)"),
+            ("second metre as the third", "(level.div_ceil(10_000) + u64::from(level > 10_000)).min(4)"),
+            ("thousandths in single floating point", "(level as f32 / 10.0 * 0.001).ceil() as u64"),
+            ("metres of the level cut to mm", "(level / 10).div_ceil(1_000)"),
+            ("metres of the nearest mm", "((level + 5) / 10).div_ceil(1_000)"),
+            ("metres of the next mm", "level.div_ceil(10).div_ceil(1_000)"),
+            ("metres of tenths as mm", "level.div_ceil(1_000).min(4)"),
         ],
     },
     Edit {
         module: "car",
-        old: "ensure(«level <= table.last_level()»",
+        old: "ensure(«level <= in_tenths(table.last_level())»",
         new: &[
-            ("16 by the first table's end", "level <= crate::wrong::end_of(tables, 0, table)"),
-            ("16 by the second table's end", "level <= crate::wrong::end_of(tables, 1, table)"),
-            ("16 by the third table's end", "level <= crate::wrong::end_of(tables, 2, table)"),
-            ("16 by the fourth table's end", "level <= crate::wrong::end_of(tables, 3, table)"),
-            ("16 by the last table's end", "level <= crate::wrong::end_of_last(tables)"),
-            ("16 by the longest table's end", "level <= crate::wrong::longest(tables)"),
-            ("16 by the shortest table's end", "level <= crate::wrong::shortest(tables)"),
+            ("16 by the first table's end", "level <= in_tenths(crate::wrong::end_of(tables, 0, table))"),
+            ("16 by the second table's end", "level <= in_tenths(crate::wrong::end_of(tables, 1, table))"),
+            ("16 by the third table's end", "level <= in_tenths(crate::wrong::end_of(tables, 2, table))"),
+            ("16 by the fourth table's end", "level <= in_tenths(crate::wrong::end_of(tables, 3, table))"),
+            ("16 by the last table's end", "level <= in_tenths(crate::wrong::end_of_last(tables))"),
+            ("16 by the longest table's end", "level <= in_tenths(crate::wrong::longest(tables))"),
+            ("16 by the shortest table's end", "level <= in_tenths(crate::wrong::shortest(tables))"),
             ("16 by the first reading", "self.readings[0] <= table.last_level()"),
             ("16 by the second reading", "self.readings[1] <= table.last_level()"),
             ("16 by the highest reading", "self.readings[..self.given as usize].iter()\
               .all(|&reading| reading <= table.last_level())"),
+            ("16 by the last level not times ten", "level <= u64::from(table.last_level())"),
+            ("16 by the mean cut to mm", "level / 10 <= u64::from(table.last_level())"),
+            ("16 by the nearest mm", "(level + 5) / 10 <= u64::from(table.last_level())"),
+            ("16 by the next mm", "level.div_ceil(10) <= u64::from(table.last_level())"),
+            ("16 by a tenth more", "level <= in_tenths(table.last_level()) + 1"),
+            ("16 by three tenths more", "level <= in_tenths(table.last_level()) + 3"),
+            ("16 by three tenths less", "level + 3 <= in_tenths(table.last_level())"),
+            ("16 below 1 mm", "level >= 10 && level <= in_tenths(table.last_level())"),
+            ("16 by the tape's highest", "level <= 36_000"),
+            ("16 in 16 bits", "(level as u16) <= in_tenths(table.last_level()) as u16"),
+            ("16 in 32 bits", "(level as u32) <= in_tenths(table.last_level()) as u32"),
         ],
     },
     Edit {
         module: "car",
-        old: "ensure(«self.water_level < level»",
+        old: "ensure(«in_tenths(self.water_level) < level»",
         new: &[
             ("17 by the first reading", "self.water_level < self.readings[0]"),
             ("17 by the second reading", "self.water_level < self.readings[1]"),
             ("17 by the lower reading", "self.water_level < self.readings[0].min(self.readings[1])"),
+            ("17 by the higher reading", "self.water_level < self.readings[0].max(self.readings[1])"),
             ("17 by the table's end", "self.water_level < table.last_level()"),
-            ("17 in 16 bits", "(self.water_level as u16) < level as u16"),
+            ("17 in 16 bits", "(self.water_level as u16).wrapping_mul(10) < level as u16"),
+            ("17 in 16 bits, then times ten", "10 * u64::from(self.water_level as u16) < level"),
+            ("17 in 32 bits", "u64::from(self.water_level.wrapping_mul(10)) < level"),
             ("17 by the capacities", "self.water_level <= table.last_level() \
-              && table.capacity(self.water_level) < table.capacity(level)"),
+              && table.capacity(in_tenths(self.water_level)) < table.capacity(level)"),
+            ("17 by the water level not times ten", "u64::from(self.water_level) < level"),
+            ("17 by the mean cut to mm", "u64::from(self.water_level) < level / 10"),
+            ("17 by the nearest mm", "u64::from(self.water_level) < (level + 5) / 10"),
+            ("17 by the next mm", "u64::from(self.water_level) < level.div_ceil(10)"),
+            ("17 by a tenth more", "in_tenths(self.water_level) < level + 1"),
+            ("17 by three tenths less", "in_tenths(self.water_level) + 3 < level"),
+            ("17 by a mm less", "in_tenths(self.water_level) + 10 <= level"),
         ],
     },
     Edit {
@@ -859,15 +966,39 @@ pub const EDITS: &[Edit] = &[
     },
     Edit {
         module: "car",
-        old: "«table.capacity(level) - table.capacity(self.water_level)»",
+        old: "«table.capacity(level) - table.capacity(in_tenths(self.water_level))»",
         new: &[
             ("water not taken off", "table.capacity(level)"),
-            ("capacities rounded once", "crate::wrong::rounded_once(table, level, self.water_level)"),
-            ("volume in whole dm³", "(table.capacity(level) - table.capacity(self.water_level)) / 100 * 100"),
+            ("capacities rounded once", "crate::wrong::rounded_once(table, level, \
+              in_tenths(self.water_level))"),
+            ("volume in whole dm³", "(table.capacity(level) - table.capacity(in_tenths(self.water_level))) \
+              / 100 * 100"),
             ("water by the first table", "table.capacity(level).saturating_sub(\
               tables.find(crate::hooks::first_type()).filter(|first| \
-              first.last_level() >= self.water_level).unwrap_or(table).capacity(self.water_level))"),
-            ("capacity at the difference of levels", "table.capacity(level - self.water_level)"),
+              first.last_level() >= self.water_level).unwrap_or(table)\
+              .capacity(in_tenths(self.water_level)))"),
+            ("capacity at the difference of levels", "table.capacity(level - in_tenths(self.water_level))"),
+            ("water level not times ten", "table.capacity(level) \
+              - table.capacity(u64::from(self.water_level))"),
+            ("capacity at the mean cut to mm", "table.capacity(level / 10 * 10) \
+              - table.capacity(in_tenths(self.water_level))"),
+            ("capacity at the nearest mm", "table.capacity((level + 5) / 10 * 10)\
+              .saturating_sub(table.capacity(in_tenths(self.water_level)))"),
+            ("capacity at the next mm", "table.capacity(level.div_ceil(10) * 10) \
+              - table.capacity(in_tenths(self.water_level))"),
+            ("capacity at the first reading", "table.capacity(in_tenths(self.readings[0]))\
+              .saturating_sub(table.capacity(in_tenths(self.water_level)))"),
+        ],
+    },
+    Edit {
+        module: "car",
+        old: "level: «level as u32»,",
+        new: &[
+            ("shown in mm", "(level / 10) as u32"),
+            ("shown in the nearest mm", "((level + 5) / 10) as u32"),
+            ("shown in hundredths", "10 * level as u32"),
+            ("shown as ten times the mm", "(level / 10 * 10) as u32"),
+            ("shown as ten times the nearest mm", "((level + 5) / 10 * 10) as u32"),
         ],
     },
     Edit {
@@ -1090,19 +1221,31 @@ pub const EDITS: &[Edit] = &[
     },
     Edit {
         module: "permitted",
-        old: "table.steps(«figures.level»)",
+        old: "table.steps(«u64::from(figures.level)»)",
         new: &[
-            ("steps around the water level", "car.water_level.max(1)"),
-            ("steps around the first reading", "car.readings[0]"),
+            ("steps around the water level", "10 * u64::from(car.water_level.max(1))"),
+            ("steps around the first reading", "10 * u64::from(car.readings[0])"),
+            ("steps around the level cut to mm", "u64::from(figures.level / 10 * 10).max(1)"),
+            ("steps around the nearest mm", "u64::from((figures.level + 5) / 10 * 10).max(1)"),
+            ("steps around the next mm", "u64::from(figures.level.div_ceil(10) * 10)"),
+            ("steps around tenths as mm", "(10 * u64::from(figures.level)).min(\
+              10 * u64::from(table.last_level()))"),
         ],
     },
     Edit {
         module: "permitted",
-        old: "table.steps(figures.level), «figures.volume»)?",
+        old: "level_term(errors.level, steps, «figures.volume»)?",
         new: &[
             ("by V15", "figures.volume_at_15"),
-            ("by V0 with the water", "table.capacity(figures.level) as u32"),
+            ("by V0 with the water", "table.capacity(u64::from(figures.level)) as u32"),
+            ("by the capacity at the mean cut to mm", "(table.capacity(u64::from(figures.level / 10 * 10)) \
+              - table.capacity(10 * u64::from(car.water_level))) as u32"),
         ],
+    },
+    Edit {
+        module: "permitted",
+        old: "«u64::from(steps.level) * u64::from(volume)»,\n    );",
+        new: &[("level step in tenths", "10 * u64::from(steps.level) * u64::from(volume)")],
     },
     Edit {
         module: "permitted",
@@ -1304,32 +1447,34 @@ pub const EDITS: &[Edit] = &[
     },
     Edit {
         module: "stick",
-        old: "ensure(«given.clone().all(|reading| LEVELS.contains(reading))»,",
+        old: "ensure(«given.clone().all(|reading| READINGS.contains(reading))»,",
         new: &[
             ("readings not tested", "true"),
-            ("first reading not tested", "given.clone().skip(1).all(|r| LEVELS().contains(r))"),
+            ("first reading not tested", "given.clone().skip(1).all(|r| READINGS().contains(r))"),
             ("last reading not tested", "given.clone().take(count as usize - 1)\
-              .all(|r| LEVELS().contains(r))"),
-            ("first ten readings tested", "given.clone().take(10).all(|r| LEVELS().contains(r))"),
-            ("any reading fits", "given.clone().any(|r| LEVELS().contains(r))"),
-            ("lowest reading tested", "given.clone().min().is_some_and(|r| LEVELS().contains(r))"),
-            ("highest reading tested", "given.clone().max().is_some_and(|r| LEVELS().contains(r))"),
-            ("mean tested", "LEVELS().contains(&((given.clone().copied().map(u64::from)\
+              .all(|r| READINGS().contains(r))"),
+            ("first ten readings tested", "given.clone().take(10).all(|r| READINGS().contains(r))"),
+            ("any reading fits", "given.clone().any(|r| READINGS().contains(r))"),
+            ("lowest reading tested", "given.clone().min().is_some_and(|r| READINGS().contains(r))"),
+            ("highest reading tested", "given.clone().max().is_some_and(|r| READINGS().contains(r))"),
+            ("mean tested", "READINGS().contains(&((given.clone().copied().map(u64::from)\
               .sum::<u64>() / u64::from(count)) as u32))"),
             ("reading of 0 taken", "given.clone().all(|&r| r <= HIGHEST)"),
             ("reading of 3,601 taken", "given.clone().all(|&r| r > 0 && r <= HIGHEST + 1)"),
-            ("all places tested", "readings.iter().all(|r| LEVELS().contains(r))"),
-            ("unused places must be 0", "given.clone().all(|r| LEVELS().contains(r)) \
+            ("readings up to 36,000 taken", "given.clone().all(|&r| r > 0 && r <= 36_000)"),
+            ("readings from 10 taken", "given.clone().all(|&r| r >= 10 && r <= HIGHEST)"),
+            ("all places tested", "readings.iter().all(|r| READINGS().contains(r))"),
+            ("unused places must be 0", "given.clone().all(|r| READINGS().contains(r)) \
               && readings.iter().skip(count as usize).all(|&unused| unused == 0)"),
             ("readings in 16 bits", "{ let cut = readings.map(|r| r & 0xffff); \
               if cut != readings { return stick_against_tape(stick, count, cut); } \
-              given.clone().all(|r| LEVELS().contains(r)) }"),
+              given.clone().all(|r| READINGS().contains(r)) }"),
             ("readings in 31 bits", "{ let cut = readings.map(|r| r & 0x7fff_ffff); \
               if cut != readings { return stick_against_tape(stick, count, cut); } \
-              given.clone().all(|r| LEVELS().contains(r)) }"),
+              given.clone().all(|r| READINGS().contains(r)) }"),
             ("readings without their sign", "{ let cut = readings.map(|r| (r as i32).unsigned_abs()); \
               if cut != readings { return stick_against_tape(stick, count, cut); } \
-              given.clone().all(|r| LEVELS().contains(r)) }"),
+              given.clone().all(|r| READINGS().contains(r)) }"),
         ],
     },
     Edit {
@@ -1342,27 +1487,47 @@ pub const EDITS: &[Edit] = &[
     },
     Edit {
         module: "stick",
-        old: "ensure(«LEVELS.contains(&stick)»,",
+        old: "ensure(«has_allowance(stick)»,",
         new: &[
             ("stick not tested", "true"),
-            ("stick of 0 taken", "if stick == 0 { return stick_against_tape(1, count, readings); } \
-              stick <= HIGHEST"),
-            ("stick of 3,601 taken", "if stick == HIGHEST + 1 \
-              { return stick_against_tape(HIGHEST, count, readings); } LEVELS().contains(&stick)"),
+            ("stick of 0 taken", "if stick == 0 { return stick_against_tape(10, count, readings); } \
+              has_allowance(stick)"),
+            ("stick of 9 taken", "if stick == 9 { return stick_against_tape(10, count, readings); } \
+              has_allowance(stick)"),
+            ("stick below 1 mm taken", "if (1..10).contains(&stick) \
+              { return stick_against_tape(10, count, readings); } has_allowance(stick)"),
+            ("stick of 36,001 taken", "if stick == 36_001 \
+              { return stick_against_tape(36_000, count, readings); } has_allowance(stick)"),
+            ("stick of 3,600 mm and tenths taken", "if (36_001..36_010).contains(&stick) \
+              { return stick_against_tape(36_000, count, readings); } has_allowance(stick)"),
+            ("stick of 1 to 3,600", "(1..=3_600).contains(&stick)"),
+            ("stick in whole mm only", "stick % 10 == 0 && has_allowance(stick)"),
             ("stick in 16 bits", "if stick > 0xffff \
               { return stick_against_tape(stick & 0xffff, count, readings); } \
-              LEVELS().contains(&stick)"),
+              has_allowance(stick)"),
             ("stick in 31 bits", "if stick > 0x7fff_ffff \
               { return stick_against_tape(stick & 0x7fff_ffff, count, readings); } \
-              LEVELS().contains(&stick)"),
-            ("stick without its sign", "if stick > 0x8000_0000 \
+              has_allowance(stick)"),
+            ("stick in 32 bits", "if stick > 0xffff_ffff \
+              { return stick_against_tape(stick & 0xffff_ffff, count, readings); } \
+              has_allowance(stick)"),
+            ("stick in 48 bits", "if stick >> 48 > 0 \
+              { return stick_against_tape(stick & 0xffff_ffff_ffff, count, readings); } \
+              has_allowance(stick)"),
+            ("stick in 63 bits", "if stick >> 63 > 0 \
+              { return stick_against_tape(stick & (u64::MAX >> 1), count, readings); } \
+              has_allowance(stick)"),
+            ("stick without its sign in 32 bits", "if stick as u32 > 0x8000_0000 \
+              { return stick_against_tape((stick as u32).wrapping_neg().into(), count, readings); } \
+              has_allowance(stick)"),
+            ("stick without its sign", "if stick > 1 << 63 \
               { return stick_against_tape(stick.wrapping_neg(), count, readings); } \
-              LEVELS().contains(&stick)"),
+              has_allowance(stick)"),
         ],
     },
     Edit {
         module: "stick",
-        old: "contains(&stick), «Refusal::StickOrTapeLevel»)",
+        old: "has_allowance(stick), «Refusal::StickOrTapeLevel»)",
         new: &[
             ("28 in place of 29 for the stick", "Refusal::TapeReadingCount"),
             ("16 in place of 29 for the stick", "Refusal::Level"),
@@ -1370,50 +1535,62 @@ pub const EDITS: &[Edit] = &[
     },
     Edit {
         module: "stick",
-        old: "let sum: i64 = «given.copied().map(i64::from).sum()»;",
+        old: "let sum: u64 = «given.copied().map(in_tenths).sum()»;",
         new: &[
-            ("of all places", "readings.iter().copied().map(i64::from).sum()"),
-            ("of the first ten", "given.take(10).copied().map(i64::from).sum()"),
-            ("without the first", "given.skip(1).copied().map(i64::from).sum()"),
-            ("without the last", "given.take(count as usize - 1).copied().map(i64::from).sum()"),
-            ("by the first reading", "i64::from(readings[0]) * i64::from(count)"),
-            ("by the last reading", "i64::from(readings[count as usize - 1]) * i64::from(count)"),
-            ("by the lowest reading", "given.min().map_or(0, |&r| i64::from(r)) * i64::from(count)"),
-            ("by the highest reading", "given.max().map_or(0, |&r| i64::from(r)) * i64::from(count)"),
-            ("in 8 bits", "i64::from(given.fold(0_u8, |sum, &r| sum.wrapping_add(r as u8)))"),
-            ("in 16 bits", "i64::from(given.fold(0_u16, |sum, &r| sum.wrapping_add(r as u16)))"),
-            ("in 16 bits with a sign", "i64::from(given.fold(0_i16, |sum, &r| sum.wrapping_add(r as i16)))"),
-            ("by the mean in whole mm", "nearest(given.copied().map(u64::from).sum(), count.into()) as i64 \
-              * i64::from(count)"),
-            ("by the mean cut to whole mm", "given.copied().map(i64::from).sum::<i64>() / i64::from(count) \
-              * i64::from(count)"),
+            ("of all places", "readings.iter().copied().map(in_tenths).sum()"),
+            ("of the first ten", "given.take(10).copied().map(in_tenths).sum()"),
+            ("without the first", "given.skip(1).copied().map(in_tenths).sum()"),
+            ("without the last", "given.take(count as usize - 1).copied().map(in_tenths).sum()"),
+            ("by the first reading", "in_tenths(readings[0]) * u64::from(count)"),
+            ("by the last reading", "in_tenths(readings[count as usize - 1]) * u64::from(count)"),
+            ("by the lowest reading", "given.min().map_or(0, |&r| in_tenths(r)) * u64::from(count)"),
+            ("by the highest reading", "given.max().map_or(0, |&r| in_tenths(r)) * u64::from(count)"),
+            ("in 8 bits", "10 * u64::from(given.fold(0_u8, |sum, &r| sum.wrapping_add(r as u8)))"),
+            ("in 16 bits", "10 * u64::from(given.fold(0_u16, |sum, &r| sum.wrapping_add(r as u16)))"),
+            ("in 16 bits with a sign", "(10 * i64::from(given.fold(0_i16, \
+              |sum, &r| sum.wrapping_add(r as i16)))) as u64"),
+            ("times ten in 16 bits", "u64::from(given.fold(0_u16, \
+              |sum, &r| sum.wrapping_add(10 * r as u16)))"),
+            ("by the mean in whole mm", "10 * nearest(given.copied().map(u64::from).sum(), count.into()) \
+              * u64::from(count)"),
+            ("by the mean cut to whole mm", "given.copied().map(u64::from).sum::<u64>() / u64::from(count) \
+              * in_tenths(count)"),
+            ("by the mean in tenths", "nearest(given.copied().map(in_tenths).sum(), count.into()) \
+              * u64::from(count)"),
+            ("readings not times ten", "given.copied().map(u64::from).sum()"),
         ],
     },
     Edit {
         module: "stick",
-        old: "let apart = «i64::from(stick) * i64::from(count) - sum»;",
+        old: "let apart = «(stick * u64::from(count)) as i64 - sum as i64»;",
         new: &[
-            ("stick times readings in 16 bits", "i64::from((stick * count) as u16) - sum"),
-            ("in 16 bits with a sign", "i64::from((i64::from(stick * count) - sum) as i16)"),
-            ("without its sign", "(i64::from(stick * count) - sum).abs()"),
-            ("not below 0", "(i64::from(stick * count) - sum).max(0)"),
+            ("stick times readings in 16 bits", "i64::from((stick * u64::from(count)) as u16) - sum as i64"),
+            ("in 16 bits with a sign", "i64::from(((stick * u64::from(count)) as i64 - sum as i64) as i16)"),
+            ("without its sign", "((stick * u64::from(count)) as i64 - sum as i64).abs()"),
+            ("not below 0", "((stick * u64::from(count)) as i64 - sum as i64).max(0)"),
+            ("stick times ten", "(10 * stick * u64::from(count)) as i64 - sum as i64"),
+            ("stick cut to mm", "(stick / 10 * 10 * u64::from(count)) as i64 - sum as i64"),
+            ("stick to the nearest mm", "((stick + 5) / 10 * 10 * u64::from(count)) as i64 - sum as i64"),
+            ("stick up to the next mm", "(stick.div_ceil(10) * 10 * u64::from(count)) as i64 - sum as i64"),
         ],
     },
     Edit {
         module: "stick",
         old: "difference: «hundredths(apart, count)»,",
         new: &[
-            ("mean over 20", "hundredths(20 * i64::from(stick) - sum, 20)"),
-            ("mean over 10", "hundredths(10 * i64::from(stick) - sum, 10)"),
+            ("mean over 20", "hundredths(20 * stick as i64 - sum as i64, 20)"),
+            ("mean over 10", "hundredths(10 * stick as i64 - sum as i64, 10)"),
             ("in whole mm", "100 * hundredths(apart, 100 * count)"),
             ("in tenths", "10 * hundredths(apart, 10 * count)"),
-            ("by the mean in 0.01 mm", "100 * i64::from(stick) \
-              - nearest(100 * sum.unsigned_abs(), count.into()) as i64"),
-            ("by the mean in 0.1 mm", "100 * i64::from(stick) \
-              - 10 * nearest(10 * sum.unsigned_abs(), count.into()) as i64"),
-            ("in double floating point", "(100.0 * (f64::from(stick) - sum as f64 / f64::from(count)))\
+            ("shown in tenths", "hundredths(apart, 10 * count)"),
+            ("shown in micrometres", "hundredths(10 * apart, count)"),
+            ("by the mean in 0.01 mm", "10 * stick as i64 - nearest(10 * sum, count.into()) as i64"),
+            ("by the mean in 0.1 mm", "10 * stick as i64 - 10 * nearest(sum, count.into()) as i64"),
+            ("in double floating point", "(10.0 * (stick as f64 - sum as f64 / f64::from(count)))\
               .round() as i64"),
-            ("in single floating point", "(100.0 * (stick as f32 - sum as f32 / count as f32))\
+            ("in mm and double floating point", "(100.0 * (stick as f64 / 10.0 \
+              - sum as f64 / 10.0 / f64::from(count))).round() as i64"),
+            ("in single floating point", "(10.0 * (stick as f32 - sum as f32 / count as f32))\
               .round() as i64"),
             ("in 8 bits", "i64::from(hundredths(apart, count) as i8)"),
             ("in 16 bits", "i64::from(hundredths(apart, count) as u16)"),
@@ -1425,42 +1602,62 @@ pub const EDITS: &[Edit] = &[
     },
     Edit {
         module: "stick",
-        old: "let passes = «apart.unsigned_abs() <= FURTHEST_MM * u64::from(count)»;",
+        old: "let passes = «apart.unsigned_abs() <= FURTHEST * u64::from(count)»;",
         new: &[
             ("by the rounded difference", "hundredths(apart, count).abs() <= 200"),
             ("2 mm fails", "hundredths(apart, count).abs() < 200"),
+            ("201 passes", "hundredths(apart, count).abs() <= 201"),
             ("205 passes", "hundredths(apart, count).abs() <= 205"),
-            ("in double floating point", "(f64::from(stick) - sum as f64 / f64::from(count)).abs() <= 2.0"),
-            ("by the difference cut to tenths", "10 * apart.unsigned_abs() / u64::from(count) <= 20"),
+            ("210 passes", "hundredths(apart, count).abs() <= 210"),
+            ("in double floating point", "(stick as f64 - sum as f64 / f64::from(count)).abs() <= 20.0"),
+            ("in mm and double floating point", "(stick as f64 / 10.0 \
+              - sum as f64 / 10.0 / f64::from(count)).abs() <= 2.0"),
+            ("by the difference cut to tenths", "apart.unsigned_abs() / u64::from(count) <= 20"),
             ("by the difference in tenths", "hundredths(apart, 10 * count).abs() <= 20"),
-            ("by the difference in tenths, a half down", "(20 * apart.unsigned_abs() \
+            ("by the difference in tenths, a half down", "(2 * apart.unsigned_abs() \
               + u64::from(count) - 1) / (2 * u64::from(count)) <= 20"),
-            ("by the difference cut to whole mm", "apart.unsigned_abs() / u64::from(count) <= 2"),
-            ("by the difference in whole mm", "nearest(apart.unsigned_abs(), count.into()) <= 2"),
-            ("by the mean in whole mm", "u64::from(stick)\
-              .abs_diff(nearest(sum.unsigned_abs(), count.into())) <= 2"),
-            ("not where the stick is below", "apart <= 2 * i64::from(count)"),
-            ("not where the stick is above", "-apart <= 2 * i64::from(count)"),
+            ("by the difference cut to whole mm", "apart.unsigned_abs() / in_tenths(count) <= 2"),
+            ("by the difference in whole mm", "nearest(apart.unsigned_abs(), in_tenths(count)) <= 2"),
+            ("by the mean in whole mm", "stick.abs_diff(10 * nearest(sum, in_tenths(count))) <= 20"),
+            ("by the mean in tenths", "stick.abs_diff(nearest(sum, count.into())) <= 20"),
+            ("by the stick cut to mm", "((stick / 10 * 10 * u64::from(count)) as i64 - sum as i64)\
+              .unsigned_abs() <= 20 * u64::from(count)"),
+            ("by the stick to the nearest mm", "(((stick + 5) / 10 * 10 * u64::from(count)) as i64 \
+              - sum as i64).unsigned_abs() <= 20 * u64::from(count)"),
+            ("by the stick up to the next mm", "((stick.div_ceil(10) * 10 * u64::from(count)) as i64 \
+              - sum as i64).unsigned_abs() <= 20 * u64::from(count)"),
+            ("2 tenths at most", "apart.unsigned_abs() <= 2 * u64::from(count)"),
+            ("20 mm at most", "apart.unsigned_abs() <= 200 * u64::from(count)"),
+            ("not where the stick is below", "apart <= 20 * i64::from(count)"),
+            ("not where the stick is above", "-apart <= 20 * i64::from(count)"),
             ("by the allowance", "hundredths(apart, count).unsigned_abs() <= tape_allowance(stick)?.into()"),
             ("by the allowance too", "hundredths(apart, count).unsigned_abs() \
               <= 200 + u64::from(tape_allowance(stick)?)"),
             ("less the allowance", "hundredths(apart, count).unsigned_abs() \
               + u64::from(tape_allowance(stick)?) <= 200"),
-            ("by every reading", "readings.iter().take(count as usize).all(|r| r.abs_diff(stick) <= 2)"),
-            ("by any reading", "readings.iter().take(count as usize).any(|r| r.abs_diff(stick) <= 2)"),
-            ("by the sum over 20", "apart.unsigned_abs() <= 40"),
-            ("by the sum over 10", "apart.unsigned_abs() <= 20"),
+            ("by every reading", "readings.iter().take(count as usize)\
+              .all(|&r| in_tenths(r).abs_diff(stick) <= 20)"),
+            ("by any reading", "readings.iter().take(count as usize)\
+              .any(|&r| in_tenths(r).abs_diff(stick) <= 20)"),
+            ("by the sum over 20", "apart.unsigned_abs() <= 400"),
+            ("by the sum over 10", "apart.unsigned_abs() <= 200"),
         ],
     },
     Edit {
         module: "stick",
         old: "allowance: «tape_allowance(stick)?»,",
         new: &[
-            ("of the mean", "tape_allowance((sum as u32).div_ceil(count))?"),
-            ("of the first reading", "tape_allowance(readings[0])?"),
-            ("of the last reading", "tape_allowance(readings[count as usize - 1])?"),
-            ("of the lowest reading", "tape_allowance(*readings.iter().take(count as usize).min().unwrap())?"),
-            ("of the highest reading", "tape_allowance(*readings.iter().take(count as usize).max().unwrap())?"),
+            ("of the mean", "tape_allowance(sum.div_ceil(count.into()))?"),
+            ("of the first reading", "tape_allowance(in_tenths(readings[0]))?"),
+            ("of the last reading", "tape_allowance(in_tenths(readings[count as usize - 1]))?"),
+            ("of the lowest reading", "tape_allowance(in_tenths(*readings.iter()\
+              .take(count as usize).min().unwrap()))?"),
+            ("of the highest reading", "tape_allowance(in_tenths(*readings.iter()\
+              .take(count as usize).max().unwrap()))?"),
+            ("of the stick cut to mm", "tape_allowance(stick / 10 * 10)?"),
+            ("of the stick to the nearest mm", "tape_allowance(((stick + 5) / 10 * 10).min(36_000))?"),
+            ("of the stick up to the next mm", "tape_allowance(stick.div_ceil(10) * 10)?"),
+            ("of tenths as mm", "tape_allowance((10 * stick).min(36_000))?"),
             ("of 1,500 mm", "45"),
             ("none", "0"),
         ],
@@ -1469,10 +1666,10 @@ pub const EDITS: &[Edit] = &[
         module: "stick",
         old: "«apart.signum() * size as i64»",
         new: &[
-            ("a half going up", "(200 * apart + i64::from(count)).div_euclid(2 * i64::from(count))"),
-            ("a half going down", "-(i64::from(count) - 200 * apart).div_euclid(2 * i64::from(count))"),
-            ("rounded down", "(100 * apart).div_euclid(i64::from(count))"),
-            ("rounded up", "-(-100 * apart).div_euclid(i64::from(count))"),
+            ("a half going up", "(20 * apart + i64::from(count)).div_euclid(2 * i64::from(count))"),
+            ("a half going down", "-(i64::from(count) - 20 * apart).div_euclid(2 * i64::from(count))"),
+            ("rounded down", "(10 * apart).div_euclid(i64::from(count))"),
+            ("rounded up", "-(-10 * apart).div_euclid(i64::from(count))"),
         ],
     },
 ];

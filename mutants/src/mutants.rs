@@ -30,7 +30,7 @@ fn keys(point: &Point) -> &'static [usize] {
         ("table", "add") => &[hooks::TABLE, hooks::ROW],
         ("table", "find" | "new") => &[],
         ("table", _) => &[hooks::TABLE],
-        ("level", "tape_allowance" | "metres") => &[],
+        ("level", "tape_allowance" | "has_allowance" | "metres") => &[],
         ("level", _) => &[hooks::GIVEN],
         ("stick", _) if point.code.starts_with("ensure(") => &[],
         ("stick", _) => &[hooks::TAPE],

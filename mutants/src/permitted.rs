@@ -1,6 +1,6 @@
 //! The permitted error of a car as the reference and its rewritten copy answer it.
 
-use reference::car::FIELDS;
+use reference::car::{Car, FIELDS};
 use reference::conformance::vectors::{self, permitted::Vector};
 use reference::permitted::ERRORS;
 
@@ -44,7 +44,7 @@ fn work_out(
     turned::permitted::work_out(&car, &tables, &errors)
 }
 
-/// Vectors of the kit with level, temperature, density and errors by lot.
+/// Vectors of the kit with level, temperature, density and errors by lot, one in four with numbers past 32 bits.
 pub fn drawn(count: u64) -> impl Iterator<Item = Vector> {
     let kit = vectors::all::<Vector>();
     (0..count).map(move |seed| {
@@ -52,7 +52,7 @@ pub fn drawn(count: u64) -> impl Iterator<Item = Vector> {
         let mut draw = Draw::new(seed);
         vector.name = format!("vector by lot {seed}");
         let level = draw.between(1, 3_600);
-        vector.car.readings = [level, level, 0, 0];
+        vector.car.readings = [level, level - draw.between(0, 1), 0, 0];
         vector.car.given = 2;
         vector.car.temperature = draw.between(400, 900);
         vector.car.density = draw.between(9_000, 9_900);
@@ -62,6 +62,28 @@ pub fn drawn(count: u64) -> impl Iterator<Item = Vector> {
                 draw.between(0, top)
             })
             .into();
+        if draw.between(0, 3) == 0 {
+            pass_32_bits(&mut vector.car, &mut draw);
+        }
         vector
     })
+}
+
+/// Makes the water level or the readings so large that ten times them, ten times the readings' sum or twice
+/// that is small where it is held in 32 bits; of readings, one time in two three of four are used.
+fn pass_32_bits(car: &mut Car, draw: &mut Draw) {
+    let place = draw.between(0, 3) as usize;
+    if place == 3 {
+        car.water_level = 429_496_730 + draw.between(0, car.readings[0]);
+        return;
+    }
+    let low = car.readings[1];
+    if draw.between(0, 1) == 0 {
+        car.given = 4;
+        car.readings = [low, low + 2, low + 1, low + 1]
+            .map(|reading| reading + [429_496_730, 143_165_577, 71_582_789][place]);
+    } else {
+        let more = [429_496_730, 214_748_365, 107_374_183][place];
+        car.readings = [low + more, car.readings[0] + more, 0, 0];
+    }
 }

@@ -17,19 +17,25 @@ macro_rules! seen {
     };
 }
 
-pub fn right(level: u32) -> Vec<u8> {
+pub fn right(level: u64) -> Vec<u8> {
     seen!(tape_allowance(level))
 }
 
-pub fn turned(level: u32) -> Vec<u8> {
+pub fn turned(level: u64) -> Vec<u8> {
     seen!(turned::tape_allowance(level))
 }
 
-/// Levels by lot in mm, half of them up to 4,000, half up to the largest number, never 0.
-pub fn drawn(count: u64) -> impl Iterator<Item = u32> {
+/// Levels by lot in 0.1 mm, never 0: up to 40,000, around the ends of a metre, up to the largest number of
+/// 32 bits, and past it by as much as a level.
+pub fn drawn(count: u64) -> impl Iterator<Item = u64> {
     (0..count).map(|seed| {
         let mut draw = Draw::new(seed);
-        let highest = [4_000, u32::MAX][draw.between(0, 1) as usize];
-        draw.between(1, highest)
+        let ends = [10, 10_000, 20_000, 30_000, 36_000];
+        match draw.between(0, 3) {
+            0 => draw.between(1, 40_000).into(),
+            1 => (ends[draw.between(0, 4) as usize] + draw.between(0, 20) - 9).into(),
+            2 => draw.between(1, u32::MAX).into(),
+            _ => (1 << draw.between(32, 63)) + u64::from(draw.between(1, 40_000)),
+        }
     })
 }

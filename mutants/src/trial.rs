@@ -16,8 +16,8 @@ enum Question {
     Sheet(Vec<u8>),
     PermittedError(Vector),
     Density(Reports),
-    /// The tape allowance at a level in mm.
-    Allowance(u32),
+    /// The tape allowance at a level in 0.1 mm.
+    Allowance(u64),
     StickAgainstTape(Check),
 }
 
@@ -70,8 +70,8 @@ impl Trial {
         Self::of(name, Question::Density(reports))
     }
 
-    /// A level in mm, and its tape allowance.
-    pub fn of_level(level: u32) -> Self {
+    /// A level in 0.1 mm, and its tape allowance.
+    pub fn of_level(level: u64) -> Self {
         Self::of(format!("level {level}"), Question::Allowance(level))
     }
 

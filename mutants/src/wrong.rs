@@ -268,8 +268,8 @@ pub fn shortest(tables: &Tables) -> u32 {
     ends(tables).into_iter().min().unwrap_or(0)
 }
 
-/// The difference of two capacities rounded once: the exact ones stand at 400 times the level.
-pub fn rounded_once(table: Table, level: u32, water: u32) -> u64 {
+/// The difference of the capacities at two levels in 0.1 mm, rounded once.
+pub fn rounded_once(table: Table, level: u64, water: u64) -> u64 {
     let (oil, oil_step) = table.fraction(level);
     let (water, water_step) = table.fraction(water);
     let difference = oil * water_step - water * oil_step;

@@ -71,11 +71,11 @@ mod exported {
             count: u32,
             readings: *const u32,
             readings_len: usize,
-            level: *mut u32,
+            level: *mut u64,
         ) -> u32;
-        pub fn rack_tape_allowance(level: u32, allowance: *mut u32) -> u32;
+        pub fn rack_tape_allowance(level: u64, allowance: *mut u32) -> u32;
         pub fn rack_stick_against_tape(
-            stick: u32,
+            stick: u64,
             count: u32,
             readings: *const u32,
             readings_len: usize,
@@ -104,7 +104,7 @@ mod exported {
             capacities: *const u32,
             capacities_len: usize,
             car_type: u32,
-            level: u32,
+            level: u64,
             water_level: u32,
             volume: *mut u32,
         ) -> u32;
@@ -213,15 +213,15 @@ pub fn write_line(letter: u8, numbers: &[u32], out: &mut [u8], length: &mut usiz
     }
 }
 
-pub fn mean_level(count: u32, readings: &[u32], level: &mut u32) -> u32 {
+pub fn mean_level(count: u32, readings: &[u32], level: &mut u64) -> u32 {
     unsafe { exported::rack_mean_level(count, readings.as_ptr(), readings.len(), level) }
 }
 
-pub fn tape_allowance(level: u32, allowance: &mut u32) -> u32 {
+pub fn tape_allowance(level: u64, allowance: &mut u32) -> u32 {
     unsafe { exported::rack_tape_allowance(level, allowance) }
 }
 
-pub fn stick_against_tape(stick: u32, count: u32, readings: &[u32], figures: &mut [u32]) -> u32 {
+pub fn stick_against_tape(stick: u64, count: u32, readings: &[u32], figures: &mut [u32]) -> u32 {
     unsafe {
         exported::rack_stick_against_tape(
             stick,
@@ -253,7 +253,7 @@ pub fn check_tables(tables: Tables) -> u32 {
 pub fn checked_volume(
     tables: Tables,
     car_type: u32,
-    level: u32,
+    level: u64,
     water_level: u32,
     volume: &mut u32,
 ) -> u32 {

@@ -65,12 +65,12 @@ fn no_operation_takes_more_than_the_header_says() {
         ("read_line", &mut || outside::read_line(b"E        1\n", &mut 0, &mut [0; FIELDS])),
         ("write_line", &mut || outside::write_line(b'C', &[1; FIELDS], &mut [0; 128], &mut 0)),
         ("mean_level", &mut || outside::mean_level(4, &[9, 7, 8, 1], &mut 0)),
-        ("tape_allowance", &mut || outside::tape_allowance(1, &mut 0)),
+        ("tape_allowance", &mut || outside::tape_allowance(10, &mut 0)),
         ("stick_against_tape", &mut || {
-            outside::stick_against_tape(9, 20, &[7; TAPE_READINGS], &mut [0; STICK])
+            outside::stick_against_tape(90, 20, &[7; TAPE_READINGS], &mut [0; STICK])
         }),
         ("check_tables", &mut || outside::check_tables(TABLES)),
-        ("checked_volume", &mut || outside::checked_volume(TABLES, 1, 9, 3, &mut 0)),
+        ("checked_volume", &mut || outside::checked_volume(TABLES, 1, 90, 3, &mut 0)),
         ("expansion_of", &mut || outside::expansion_of(9_500, &mut 0)),
         ("factor_of", &mut || outside::factor_of(9_500, 600, &mut 0)),
         ("density_at_20", &mut || outside::density_at_20(9_500, &mut 0)),

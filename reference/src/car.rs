@@ -2,7 +2,7 @@
 
 use std::ops::RangeInclusive;
 
-use crate::level;
+use crate::level::{self, in_tenths};
 use crate::mass;
 use crate::refusal::{ensure, Refusal};
 use crate::table::Tables;
@@ -104,7 +104,7 @@ impl From<Car> for [u32; FIELDS] {
 #[derive(Clone, Copy, Debug, PartialEq, Eq)]
 pub struct Figures {
     pub number: u32,
-    /// Mean level, in mm.
+    /// Mean level, in 0.1 mm.
     pub level: u32,
     /// V0 and V15, in 0.01 dm³.
     pub volume: u32,
@@ -132,8 +132,8 @@ impl Car {
         let grade = self.grade().ok_or(Refusal::GradeOrStick)?;
         let stick = Stick::numbered(self.stick).ok_or(Refusal::GradeOrStick)?;
         let level = level::mean(self.given, self.readings)?;
-        ensure(level <= table.last_level(), Refusal::Level)?;
-        ensure(self.water_level < level, Refusal::WaterLevel)?;
+        ensure(level <= in_tenths(table.last_level()), Refusal::Level)?;
+        ensure(in_tenths(self.water_level) < level, Refusal::WaterLevel)?;
         ensure(grade.temperatures.contains(&self.temperature), Refusal::Temperature)?;
         ensure(DENSITIES.contains(&self.density), Refusal::Density15)?;
         ensure(
@@ -145,14 +145,14 @@ impl Car {
             ensure(thermal::density_at_20(density) <= highest, Refusal::Density20)?;
         }
 
-        let volume = table.capacity(level) - table.capacity(self.water_level);
+        let volume = table.capacity(level) - table.capacity(in_tenths(self.water_level));
         let measured = thermal::volume_at_temperature(volume, stick, self.temperature);
         let volume_at_15 = mass::volume_at_15(measured, density, self.temperature);
         let gross = mass::gross(volume_at_15, density);
         let net = mass::net(gross, self.water, self.impurities);
         Ok(Figures {
             number: self.number,
-            level,
+            level: level as u32,
             volume: volume as u32,
             volume_at_15: volume_at_15 as u32,
             gross: gross as u32,

@@ -1,4 +1,8 @@
 //! Levels: the mean of the readings (step 1) and the tape allowance.
+//!
+//! Readings are in mm. A mean level, and a level that is handed over by itself, is in 0.1 mm.
+
+use std::ops::RangeInclusive;
 
 use crate::refusal::Refusal;
 use crate::rounding::nearest;
@@ -12,12 +16,23 @@ const SPAN: u32 = 3;
 /// No level passes this many mm.
 pub const HIGHEST: u32 = 3_600;
 
+/// Levels that have a tape allowance, in 0.1 mm.
+const TAPE_LEVELS: RangeInclusive<u64> = 10..=36_000;
+
+/// A metre, in 0.1 mm.
+const METRE: u64 = 10_000;
+
 /// Permitted deviation of the tape, in 0.01 mm, for 1, 2, 3 and 4 whole and part metres.
 const ALLOWANCES: [u32; 4] = [30, 45, 60, 75];
 
-/// The mean level in mm, from two or four readings; the places of readings not given hold 0:
+/// Whole mm in 0.1 mm.
+pub fn in_tenths(level: u32) -> u64 {
+    10 * u64::from(level)
+}
+
+/// The mean level in 0.1 mm, from two or four readings; the places of readings not given hold 0:
 /// refusals 14, 15, 23 and, for a mean of 0, 16.
-pub fn mean(given: u32, readings: [u32; 4]) -> Result<u32, Refusal> {
+pub fn mean(given: u32, readings: [u32; 4]) -> Result<u64, Refusal> {
     let [first, second, third, fourth] = readings;
     let agree = first.abs_diff(second) <= AGREEMENT;
     let mean = match given {
@@ -53,20 +68,26 @@ fn three_closest(mut readings: [u32; 4]) -> [u32; 3] {
     }
 }
 
-fn mean_of(readings: &[u32]) -> u32 {
-    let sum = readings.iter().copied().map(u64::from).sum();
-    nearest(sum, readings.len() as u64) as u32
+/// The mean of readings in 0.1 mm, rounded once.
+fn mean_of(readings: &[u32]) -> u64 {
+    let sum: u64 = readings.iter().copied().map(in_tenths).sum();
+    nearest(sum, readings.len() as u64)
 }
 
-/// The tape allowance at a level in mm, in 0.01 mm: refusal 16.
-pub fn tape_allowance(level: u32) -> Result<u32, Refusal> {
-    if !(1..=HIGHEST).contains(&level) {
+/// The tape allowance at a level in 0.1 mm, in 0.01 mm: refusal 16.
+pub fn tape_allowance(level: u64) -> Result<u32, Refusal> {
+    if !has_allowance(level) {
         return Err(Refusal::Level);
     }
     Ok(ALLOWANCES[metres(level) as usize - 1])
 }
 
-/// The number of whole and part metres in a level in mm.
-pub fn metres(level: u32) -> u32 {
-    level.div_ceil(1_000)
+/// Whether a level in 0.1 mm has a tape allowance.
+pub fn has_allowance(level: u64) -> bool {
+    TAPE_LEVELS.contains(&level)
+}
+
+/// The number of whole and part metres in a level in 0.1 mm.
+pub fn metres(level: u64) -> u64 {
+    level.div_ceil(METRE)
 }

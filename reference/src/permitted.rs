@@ -92,7 +92,8 @@ pub fn work_out(car: &Car, tables: &Tables, errors: &Errors) -> Result<Permitted
     let figures = car.work_out(tables)?;
     errors.check()?;
     let table = tables.find(car.car_type).ok_or(Refusal::Type)?;
-    let level = level_term(errors.level, table.steps(figures.level), figures.volume)?;
+    let steps = table.steps(u64::from(figures.level));
+    let level = level_term(errors.level, steps, figures.volume)?;
     let terms = Terms::new(errors, level, Density15(car.density), car.temperature);
     let limit = limit(terms.squares);
     Ok(PermittedError { figures, terms, limit, within: is_within(limit, figures.gross) })

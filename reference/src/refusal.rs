@@ -36,7 +36,7 @@ pub enum Refusal {
     ReadingCount = 14,
     /// Two readings lie more than 1 mm apart.
     ReadingsApart = 15,
-    /// The level is 0 or above what can be measured.
+    /// The level is 0 or above what can be measured, or has no tape allowance.
     Level = 16,
     /// The water level is not below the mean level.
     WaterLevel = 17,

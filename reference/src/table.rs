@@ -1,6 +1,6 @@
 //! Capacity tables: building them row by row, and the capacity at a level (step 2).
 
-use crate::level;
+use crate::level::{self, in_tenths};
 use crate::refusal::Refusal;
 use crate::rounding::nearest;
 
@@ -110,33 +110,38 @@ impl Table<'_> {
         self.rows.last().map_or(0, |row| row.level)
     }
 
-    /// The capacity at a level that the table reaches, linear between rows, in 0.01 dm³.
+    /// The capacity at a level in 0.1 mm that the table reaches, linear between rows, in 0.01 dm³.
     ///
     /// # Panics
     ///
     /// If the table does not reach the level.
-    pub fn capacity(&self, level: u32) -> u64 {
-        let above = self.rows.partition_point(|row| row.level < level);
+    pub fn capacity(&self, level: u64) -> u64 {
+        let above = self.place(level);
         let upper = self.rows[above];
-        if upper.level == level {
+        if in_tenths(upper.level) == level {
             return 100 * u64::from(upper.capacity);
         }
         let lower = self.rows[above - 1];
-        let rise = u64::from(upper.capacity - lower.capacity) * u64::from(level - lower.level);
-        100 * u64::from(lower.capacity) + nearest(100 * rise, u64::from(upper.level - lower.level))
+        let rise = u64::from(upper.capacity - lower.capacity) * (level - in_tenths(lower.level));
+        100 * u64::from(lower.capacity) + nearest(100 * rise, in_tenths(upper.level - lower.level))
     }
 
-    /// The steps of level, in mm, and capacity, in dm³, between the rows around a level that the
-    /// table reaches; on a row, from the row below it.
+    /// The steps of level, in mm, and capacity, in dm³, between the rows around a level in 0.1 mm
+    /// that the table reaches; on a row, from the row below it.
     ///
     /// # Panics
     ///
     /// If the level is 0, or the table does not reach it.
-    pub fn steps(&self, level: u32) -> Row {
-        let place = self.rows.partition_point(|row| row.level < level);
+    pub fn steps(&self, level: u64) -> Row {
+        let place = self.place(level);
         let (low, high) = (self.rows[place - 1], self.rows[place]);
         let level = high.level - low.level;
         let capacity = high.capacity - low.capacity;
         Row { level, capacity }
+    }
+
+    /// The place of the first row that reaches a level in 0.1 mm, or one past the last.
+    fn place(&self, level: u64) -> usize {
+        self.rows.partition_point(|row| in_tenths(row.level) < level)
     }
 }

@@ -75,7 +75,7 @@ fn the_index_has_every_sheet_once() {
 #[test]
 fn the_paper_s_car_has_the_card_s_figures_on_the_way() {
     let steps = reference::conformance::steps::of(&cases());
-    let figures = "| `paper-sheet` | 50000001 | 1500 | 3500000 | 3507000 | 718937 | 331894951 |";
+    let figures = "| `paper-sheet` | 50000001 | 15000 | 3500000 | 3507000 | 718937 | 331894951 |";
     assert!(steps.contains(figures));
     assert!(steps.contains("| 9673552332 | 3392515 | 32229 | 32003 |"));
 }

@@ -3,6 +3,7 @@
 use reference::car::{Car, Figures, FIELDS};
 use reference::sheet::Sheet;
 use reference::sheets;
+use reference::table::{Row, Tables};
 use reference::train::Train;
 
 /// A whole number of any length, its lowest 32 bits first.
@@ -115,18 +116,18 @@ fn exponential(dividend: &Big, divisor: &Big, powers: u64) -> Exact {
     sum
 }
 
-/// A hundred times the capacity at a level, as dividend and divisor.
+/// A hundred times the capacity at a level in 0.1 mm, as dividend and divisor.
 fn capacity(rows: &[(u64, u64)], level: u64) -> (u64, u64) {
-    let pair = rows.windows(2).find(|pair| level <= pair[1].0).unwrap();
+    let pair = rows.windows(2).find(|pair| level <= 10 * pair[1].0).unwrap();
     let ((low, low_capacity), (high, high_capacity)) = (pair[0], pair[1]);
-    let step = high - low;
+    let (low, step) = (10 * low, 10 * (high - low));
     (100 * (low_capacity * step + (high_capacity - low_capacity) * (level - low)), step)
 }
 
-/// The exact gross mass of an accepted car, its series taken to a power.
+/// The exact gross mass of an accepted car, from its mean level in 0.1 mm, its series taken to a power.
 fn exact_gross(car: &Car, figures: &Figures, rows: &[(u64, u64)], powers: u64) -> Exact {
     let (oil, oil_step) = capacity(rows, u64::from(figures.level));
-    let (water, water_step) = capacity(rows, u64::from(car.water_level));
+    let (water, water_step) = capacity(rows, 10 * u64::from(car.water_level));
     let density = u64::from(car.density);
     let temperature = u64::from(car.temperature);
     let expansion = if car.stick == 1 { 100 } else { 121 };
@@ -232,7 +233,7 @@ fn the_first_car_of_the_paper() {
     let rows = [(0, 0), (1000, 20_000), (2000, 50_000), (3000, 70_000)];
     let figures = Figures {
         number: 50_000_001,
-        level: 1500,
+        level: 15_000,
         volume: 3_500_000,
         volume_at_15: 3_392_515,
         gross: 32_229,
@@ -244,6 +245,26 @@ fn the_first_car_of_the_paper() {
         assert!(!gross.is_near(32_230, 55));
         assert!(!gross.is_near(32_228, 55));
         assert!(gross.by(9_930, 10_000).is_near(32_003, 110));
+    }
+}
+
+/// The paper's car at 1500.5 mm holds 35,015 dm³ and 32,242.70 kg; at 1500 mm it would be 32,228.89 kg, at
+/// 1501 mm 32,256.52 kg.
+#[test]
+fn the_exact_value_starts_from_tenths() {
+    let rows = [(0, 0), (1000, 20_000), (2000, 50_000), (3000, 70_000)];
+    let mut tables = Tables::new();
+    tables.begin(1, 4).unwrap();
+    for (level, capacity) in rows {
+        tables.add(Row { level: level as u32, capacity: capacity as u32 }).unwrap();
+    }
+    let car = Car::from([1, 1, 3, 1, 2, 1500, 1501, 0, 0, 0, 600, 9500, 50, 20]);
+    let figures = car.work_out(&tables).unwrap();
+    assert_eq!((figures.level, figures.volume), (15_005, 3_501_500));
+    for powers in [7, 8] {
+        let gross = exact_gross(&car, &figures, &rows, powers);
+        assert!(gross.is_near(32_243, 55) && gross.is_near(figures.gross.into(), 55));
+        assert!(!gross.is_near(32_229, 110) && !gross.is_near(32_257, 110));
     }
 }
 

@@ -2,6 +2,7 @@
 
 use std::collections::{BTreeMap, HashSet};
 
+use reference::level;
 use reference::sheet::Sheet;
 use reference::{listing, sheets, SHEET_BYTES};
 
@@ -73,6 +74,41 @@ fn spans_on_both_sides_of_the_limit_are_met() {
         assert!(count(|lower, upper, span| lower == span && upper == span, span) >= 50);
     }
     assert!(wild >= 500, "{wild} cars have first readings that agree and others that do not");
+}
+
+/// Accepted cars by the tenths of their mean level, of two readings and of three, cars below 1 mm, and
+/// cars that a part of a mm turns away by 16 or 17, or would if it were 1 mm more.
+#[test]
+fn tenths_of_every_kind_are_met() {
+    let mut tenths: BTreeMap<u64, u32> = BTreeMap::new();
+    let (mut low, mut past_the_end) = ([0; 10], BTreeMap::<u64, u32>::new());
+    let mut over_water: BTreeMap<i64, u32> = BTreeMap::new();
+    for seed in 0..SEEDS {
+        let bytes = sheets::sheet(seed);
+        let Ok(sheet) = Sheet::read(&bytes) else { continue };
+        for car in sheet.cars() {
+            let Ok(level) = level::mean(car.given, car.readings) else { continue };
+            let Some(table) = sheet.tables.find(car.car_type) else { continue };
+            let end = level::in_tenths(table.last_level());
+            if level > end && level < end + 10 {
+                *past_the_end.entry(level - end).or_default() += 1;
+            }
+            let over = level as i64 - level::in_tenths(car.water_level) as i64;
+            *over_water.entry(over).or_default() += 1;
+            if car.work_out(&sheet.tables).is_ok() {
+                *tenths.entry(level % 10).or_default() += 1;
+                low[(level as usize).min(10) % 10] += u32::from(level < 10);
+            }
+        }
+    }
+    for tenth in [0, 3, 5, 7] {
+        assert!(tenths[&tenth] >= 1_000, "{tenth}: {tenths:?}");
+        assert!(tenth == 0 || low[tenth as usize] >= 10, "{tenth}: {low:?}");
+        assert!(tenth == 0 || past_the_end[&tenth] >= 20, "{tenth}: {past_the_end:?}");
+    }
+    for over in [-10, -7, -5, -3, 0, 3, 5, 7, 10] {
+        assert!(over_water[&over] >= 20, "{over}");
+    }
 }
 
 #[test]

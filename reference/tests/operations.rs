@@ -21,9 +21,9 @@ fn the_card() {
     assert_eq!(operations::density_at_20(9_500), Ok(Density20(9_466)));
     assert_eq!(operations::density_at_20_of_grade(1, 9_584), Ok(Density20(9_550)));
     assert_eq!(operations::density_at_20_of_grade(1, 9_585), Err(Refusal::Density20));
-    assert_eq!(operations::volume(&tables(), 1, 1, 0), Ok(2_000));
-    assert_eq!(operations::volume(&tables(), 1, 3_000, 0), Ok(7_000_000));
-    assert_eq!(operations::volume(&tables(), 1, 3_001, 0), Err(Refusal::Level));
+    assert_eq!(operations::volume(&tables(), 1, 10, 0), Ok(2_000));
+    assert_eq!(operations::volume(&tables(), 1, 30_000, 0), Ok(7_000_000));
+    assert_eq!(operations::volume(&tables(), 1, 30_001, 0), Err(Refusal::Level));
 }
 
 #[test]
@@ -39,7 +39,7 @@ fn the_first_refusal_in_the_listed_order() {
     assert_eq!(operations::oil_share(0, 101), Err(Refusal::WaterOrImpurities));
     assert_eq!(operations::volume(&tables(), 2, 0, 9), Err(Refusal::Type));
     assert_eq!(operations::volume(&tables(), 1, 0, 9), Err(Refusal::Level));
-    assert_eq!(operations::volume(&tables(), 1, 9, 9), Err(Refusal::WaterLevel));
+    assert_eq!(operations::volume(&tables(), 1, 90, 9), Err(Refusal::WaterLevel));
 }
 
 #[test]

@@ -1,5 +1,5 @@
 //! The paper's own figures, and its sheet and listing byte for byte, with the totals by grade that
-//! its change request (a) adds.
+//! its change request (a) adds, and levels in tenths of a millimetre as (g) has them.
 
 use reference::car::{Car, Figures};
 use reference::level;
@@ -21,7 +21,7 @@ E        2
 ";
 
 const LISTING: &str = "\
-A 50000001     1500  3500000  3392515    32229    32003
+A 50000001    15000  3500000  3392515    32229    32003
 X 50000002       17
 S        1    32229    32003
 G        1        0        0        0
@@ -92,7 +92,7 @@ fn figures_of_the_first_car() {
         work_out(CAR),
         Ok(Figures {
             number: 50_000_001,
-            level: 1500,
+            level: 15_000,
             volume: 3_500_000,
             volume_at_15: 3_392_515,
             gross: 32_229,
@@ -108,8 +108,9 @@ fn density_at_20() {
 
 #[test]
 fn mean_levels() {
-    assert_eq!(level::mean(4, [1500, 1504, 1501, 1502]), Ok(1501));
-    assert_eq!(level::mean(4, [1500, 1503, 1501, 1502]), Ok(1501));
+    // 1500, 1501 and 1502 are the three closest of both.
+    assert_eq!(level::mean(4, [1500, 1504, 1501, 1502]), Ok(15_010));
+    assert_eq!(level::mean(4, [1500, 1503, 1501, 1502]), Ok(15_010));
     assert_eq!(level::mean(2, [1500, 1502, 0, 0]).unwrap_err().number(), 15);
     assert_eq!(refusal(Car { readings: [1500, 1502, 0, 0], ..CAR }), Some(15));
 }
@@ -118,7 +119,7 @@ fn mean_levels() {
 fn capacities() {
     let tables = tables();
     let table = tables.find(1).unwrap();
-    assert_eq!(table.capacity(1), 2_000);
+    assert_eq!(table.capacity(10), 2_000);
     let at = |level| Car { readings: [level, level, 0, 0], ..CAR };
     assert_eq!(work_out(at(3000)).unwrap().volume, 7_000_000);
     assert_eq!(refusal(at(3001)), Some(16));
@@ -136,8 +137,9 @@ fn temperature_density_and_water() {
 
 #[test]
 fn tape_allowances() {
-    assert_eq!(level::tape_allowance(1000), Ok(30));
-    assert_eq!(level::tape_allowance(1001), Ok(45));
+    assert_eq!(level::tape_allowance(10_000), Ok(30));
+    assert_eq!(level::tape_allowance(10_001), Ok(45));
+    assert_eq!(level::tape_allowance(10_010), Ok(45));
 }
 
 #[test]

@@ -31,10 +31,10 @@ const CAR: Car = Car {
 
 #[test]
 fn tape_allowance_at_every_bound() {
-    let bounds = [1, 1000, 1001, 2000, 2001, 3000, 3001, 3600];
+    let bounds = [10, 10_000, 10_001, 20_000, 20_001, 30_000, 30_001, 36_000];
     let allowances = bounds.map(|level| level::tape_allowance(level).unwrap());
     assert_eq!(allowances, [30, 30, 45, 45, 60, 60, 75, 75]);
-    for level in [0, 3601, 99_999_999, u32::MAX] {
+    for level in [0, 9, 36_001, 99_999_999, u64::MAX] {
         assert_eq!(level::tape_allowance(level), Err(Refusal::Level));
     }
 }
@@ -45,9 +45,9 @@ fn mean_level_by_itself() {
     assert_eq!(level::mean(2, [1, 9, 1, 0]), Err(Refusal::ReadingCount));
     assert_eq!(level::mean(2, [1, 9, 0, 0]), Err(Refusal::ReadingsApart));
     assert_eq!(level::mean(2, [0, 0, 0, 0]), Err(Refusal::Level));
-    assert_eq!(level::mean(2, [0, 1, 0, 0]), Ok(1));
-    assert_eq!(level::mean(4, [99_999_999, 99_999_997, 99_999_999, 99_999_999]), Ok(99_999_999));
-    assert_eq!(level::mean(4, [u32::MAX, 0, u32::MAX, u32::MAX]), Ok(u32::MAX));
+    assert_eq!(level::mean(2, [0, 1, 0, 0]), Ok(5));
+    assert_eq!(level::mean(4, [99_999_999, 99_999_997, 99_999_999, 99_999_999]), Ok(999_999_990));
+    assert_eq!(level::mean(4, [u32::MAX, 0, u32::MAX, u32::MAX]), Ok(42_949_672_950));
 }
 
 #[test]
@@ -59,7 +59,8 @@ fn the_order_of_four_readings_matters_only_through_the_first_two() {
                 let lower = (sorted[2] - sorted[0], sorted[0] + sorted[1] + sorted[2]);
                 let upper = (sorted[3] - sorted[1], sorted[1] + sorted[2] + sorted[3]);
                 let (span, sum) = if lower.0 <= upper.0 { lower } else { upper };
-                let mean = if span > 3 { Err(THREE_APART) } else { Ok((2 * sum + 3) / 6) };
+                let mean =
+                    if span > 3 { Err(THREE_APART) } else { Ok(u64::from(20 * sum + 3) / 6) };
                 let [p, q, r, s] = sorted;
                 assert_eq!(level::mean(4, [p, s, q, r]), mean);
                 assert_eq!(level::mean(4, [s, p, r, q]), mean);
@@ -75,19 +76,19 @@ fn three_of_four_readings_span_at_most_3_mm() {
     assert_eq!(THREE_APART.number(), 23);
     for (readings, mean) in [
         // The lower triple, by 3 and by 4.
-        ([1500, 1503, 1501, 1600], Ok(1501)),
+        ([1500, 1503, 1501, 1600], Ok(15_013)),
         ([1500, 1504, 1501, 1600], Err(THREE_APART)),
         // The upper triple.
-        ([1400, 1503, 1501, 1500], Ok(1501)),
+        ([1400, 1503, 1501, 1500], Ok(15_013)),
         ([1400, 1504, 1501, 1500], Err(THREE_APART)),
         // Both, equally close.
-        ([1500, 1504, 1501, 1503], Ok(1501)),
+        ([1500, 1504, 1501, 1503], Ok(15_013)),
         ([1500, 1505, 1501, 1504], Err(THREE_APART)),
         // Two and two, and as far apart as can be.
-        ([0, 3, 3, 0], Ok(1)),
+        ([0, 3, 3, 0], Ok(10)),
         ([0, 4, 4, 0], Err(THREE_APART)),
         ([0, u32::MAX, 0, u32::MAX], Err(THREE_APART)),
-        ([u32::MAX, u32::MAX - 3, u32::MAX, 0], Ok(u32::MAX - 1)),
+        ([u32::MAX, u32::MAX - 3, u32::MAX, 0], Ok(42_949_672_940)),
     ] {
         assert_eq!(level::mean(4, readings), mean, "{readings:?}");
     }
@@ -97,8 +98,8 @@ fn three_of_four_readings_span_at_most_3_mm() {
 fn first_two_readings_that_agree_need_no_others() {
     for others in [[0, 0], [1510, 1520], [0, u32::MAX], [u32::MAX, 1495]] {
         let [third, fourth] = others;
-        assert_eq!(level::mean(4, [1500, 1501, third, fourth]), Ok(1501));
-        assert_eq!(level::mean(4, [1500, 1500, third, fourth]), Ok(1500));
+        assert_eq!(level::mean(4, [1500, 1501, third, fourth]), Ok(15_005));
+        assert_eq!(level::mean(4, [1500, 1500, third, fourth]), Ok(15_000));
     }
 }
 
@@ -143,11 +144,14 @@ fn capacity_meets_every_row() {
     let table = tables.find(9_999).unwrap();
     assert_eq!(table.last_level(), 3_591);
     for row in 0..400_u64 {
-        assert_eq!(table.capacity(9 * row as u32), 100 * row * (row + 1));
+        assert_eq!(table.capacity(90 * row), 100 * row * (row + 1));
     }
     // A ninth of the step of 2 dm³ from row 0 to row 1: 22.2 units to the mm.
-    let first: Vec<u64> = (0..=9).map(|level| table.capacity(level)).collect();
+    let first: Vec<u64> = (0..=9).map(|level| table.capacity(10 * level)).collect();
     assert_eq!(first, [0, 22, 44, 67, 89, 111, 133, 156, 178, 200]);
+    // 2.22 units to a tenth of a mm.
+    let tenths: Vec<u64> = (81..=90).map(|level| table.capacity(level)).collect();
+    assert_eq!(tenths, [180, 182, 184, 187, 189, 191, 193, 196, 198, 200]);
     assert!(tables.find(9_998).is_none());
 }
 

@@ -79,11 +79,28 @@ fn the_paper_s_vectors() {
     assert_eq!(shown(RACK, CAR, [0; 6]), ([0, 0, 1_063_338, 0, 0, 0, 0], true));
 }
 
+/// Of readings that differ by 1 mm: the search for the rows compares tenths, the level step stays in mm.
+#[test]
+fn the_rows_around_a_level_in_tenths() {
+    let level_term = |readings: [u32; 2]| {
+        let mut car = CAR;
+        car[5..7].copy_from_slice(&readings);
+        let permitted = ask(RACK, car, ERRORS).unwrap();
+        (permitted.figures.level, permitted.figures.volume, permitted.terms.level)
+    };
+    // 6 × 10¹² over 1,000 mm × V0, rows 0 and 1000: 3,001.5007 and 3,000.
+    assert_eq!(level_term([999, 1_000]), (9_995, 1_999_000, 3_002));
+    assert_eq!(level_term([1_000, 1_000]), (10_000, 2_000_000, 3_000));
+    // 9 × 10¹² over 1,000 mm × V0, rows 1000 and 2000: 4,496.63 and 2,570.33.
+    assert_eq!(level_term([1_000, 1_001]), (10_005, 2_001_500, 4_497));
+    assert_eq!(level_term([1_501, 1_500]), (15_005, 3_501_500, 2_570));
+}
+
 #[test]
 fn the_figures_are_those_of_the_car_alone() {
     let permitted = ask(RACK, CAR, ERRORS).unwrap();
     let figures = permitted.figures;
-    assert_eq!((figures.number, figures.level, figures.volume), (50_000_001, 1_500, 3_500_000));
+    assert_eq!((figures.number, figures.level, figures.volume), (50_000_001, 15_000, 3_500_000));
     assert_eq!((figures.volume_at_15, figures.gross, figures.net), (3_392_515, 32_229, 32_003));
 }
 

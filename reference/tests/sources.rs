@@ -20,8 +20,8 @@ fn annex_car() {
     let tables = table(&[(0, 0), (100, 435), (2900, 72_959), (2910, 73_080)]);
     let table = tables.find(1).unwrap();
     // 73,007 dm³ of liquid, 435 dm³ of water.
-    assert_eq!(table.capacity(2904), 7_300_740);
-    assert_eq!(table.capacity(100), 43_500);
+    assert_eq!(table.capacity(29_040), 7_300_740);
+    assert_eq!(table.capacity(1_000), 43_500);
 
     // 0.0007063 per °C and 937.6 kg/m³ at 52.3 °C.
     let density = Density15(9632);
@@ -45,7 +45,7 @@ fn annex_car() {
 #[test]
 fn interpolation() {
     let tables = table(&[(0, 0), (2800, 70_705), (2810, 70_865)]);
-    assert_eq!(tables.find(1).unwrap().capacity(2806), 7_080_100);
+    assert_eq!(tables.find(1).unwrap().capacity(28_060), 7_080_100);
 }
 
 /// GOST R 8.787, annexes Б and Д: densities measured at a temperature and at 15 °C. Each density
@@ -80,6 +80,6 @@ fn cylinder() {
     let tables = table(&rows);
     let table = tables.find(1).unwrap();
     assert_eq!(table.last_level(), 3000);
-    assert_eq!(table.capacity(3000), 7_280_600);
-    assert_eq!(table.capacity(2995), 7_279_450);
+    assert_eq!(table.capacity(30_000), 7_280_600);
+    assert_eq!(table.capacity(29_950), 7_279_450);
 }

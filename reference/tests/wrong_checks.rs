@@ -1,11 +1,13 @@
 //! A second calculation of the stick against the tape that can take a wrong turn: each turn must show in
 //! the answer of the vectors made for it.
 
+mod millimetres;
 mod roundings;
 mod turns;
 
 use reference::conformance::vectors::{all, stick::Vector};
 
+use millimetres::Millimetre::{self, Cut, Nearest, Next};
 use roundings::{rounded, Rounding};
 
 #[derive(Clone, Copy, Debug, PartialEq, Eq)]
@@ -18,16 +20,27 @@ enum Turn {
     HalfDown,
     Floor,
     Ceiling,
+    InSingleFloatingPoint,
     SignTurned,
     WithoutSign,
     /// Difference or mean to so many 0.01 mm, before they are used further.
     DifferenceTo(i64),
     MeanTo(i64),
     MeanCutTo(i64),
+    /// The stick level brought to whole mm, for all that comes of it, for the pass or for the allowance.
+    StickTo(Millimetre),
+    PassByStickTo(Millimetre),
+    AllowanceOfStickTo(Millimetre),
+    /// Tenths of the stick level taken for mm, for all that comes of it or for the allowance.
+    StickAsMillimetres,
+    AllowanceOfMillimetres,
+    /// The difference in another unit, so many to a mm.
+    DifferenceIn1Of(i64),
     /// Held in so many bits, with a sign or without.
     SumIn(Word),
     StickTimesCountIn(Word),
-    HundredfoldIn(Word),
+    TenfoldSumIn(Word),
+    TenfoldIn(Word),
     DifferenceIn(Word),
     Averaged(Mean),
     Pass(Pass),
@@ -38,8 +51,9 @@ enum Turn {
     Tested(Tested),
     CountIn(Word),
     LevelsIn(Word),
-    /// Count and levels without their signs.
-    Unsigned,
+    /// Count and levels without their signs, in 32 bits and in 64.
+    Unsigned32,
+    Unsigned64,
     LevelsBeforeCount,
     /// One refusal in place of another.
     For(u32, u32),
@@ -97,6 +111,9 @@ enum Pass {
     AnyReading,
     /// The sum of the differences, in mm.
     Sum(i64),
+    /// At most so many tenths of a mm.
+    Tenths(i64),
+    MillimetresInFloatingPoint,
     Turned,
 }
 
@@ -119,7 +136,7 @@ enum Tested {
 /// refusal.
 type Seen = Result<(i64, bool, i64), u32>;
 
-/// What is given, in mm.
+/// What is given: the stick level in 0.1 mm, readings in mm.
 struct Given {
     stick: i64,
     count: i64,
@@ -133,7 +150,7 @@ struct Over(i64, i64);
 impl Word {
     fn hold(self, number: i64) -> i64 {
         match self {
-            Self::Unsigned(bits) => number.rem_euclid(1 << bits),
+            Self::Unsigned(bits) => number & (i64::MAX >> (63 - bits)),
             Self::Signed(bits) => {
                 (number + (1 << (bits - 1))).rem_euclid(1 << bits) - (1 << (bits - 1))
             }
@@ -185,41 +202,61 @@ fn nearest(dividend: i64, divisor: i64) -> i64 {
     (2 * dividend + divisor).div_euclid(2 * divisor)
 }
 
+/// The allowance at a level in 0.1 mm.
 fn allowance(level: i64) -> i64 {
-    15 + 15 * (0..level).step_by(1_000).count() as i64
+    15 + 15 * (0..level).step_by(10_000).count() as i64
 }
 
 impl Turn {
     fn answer(self, vector: &Vector) -> Seen {
         let given = self.taken(vector);
         self.test(&given)?;
+        let given = Given { stick: self.worked_with(given.stick), ..given };
         let mean = given.mean(if let Self::Averaged(mean) = self { mean } else { Mean::OfGiven });
-        let allowance = match self {
-            Self::AllowanceOf(mean) => {
-                let Over(sum, over) = given.mean(mean);
-                allowance(-(-sum).div_euclid(over))
-            }
-            Self::AllowanceOf1500 => allowance(1_500),
-            _ => allowance(given.stick),
-        };
+        let allowance = self.allowance(&given);
         let more = if let Self::AllowanceAdded(times) = self { times * allowance } else { 0 };
         let passes = self.passes(&given, mean, allowance);
         Ok((self.difference(given.stick, mean) + more, passes, allowance))
     }
 
-    /// The numbers that are worked with.
+    /// The numbers that are tested.
     fn taken(self, vector: &Vector) -> Given {
-        let hold = |number: u32, in_word: Option<Word>| match (self, in_word) {
-            (Self::Unsigned, _) => i64::from((number as i32).unsigned_abs()),
-            (_, Some(word)) => word.hold(number.into()),
-            _ => number.into(),
+        let hold = |number: u64, in_word: Option<Word>| match (self, in_word) {
+            (Self::Unsigned32, _) => i64::from((number as i32).unsigned_abs()),
+            (Self::Unsigned64, _) => (number as i64).unsigned_abs() as i64,
+            (_, Some(word)) => word.hold(number as i64),
+            _ => number.try_into().unwrap_or(i64::MAX),
         };
         let count = if let Self::CountIn(word) = self { Some(word) } else { None };
         let level = if let Self::LevelsIn(word) = self { Some(word) } else { None };
         Given {
             stick: hold(vector.stick, level),
-            count: hold(vector.count, count),
-            places: vector.readings.iter().map(|&reading| hold(reading, level)).collect(),
+            count: hold(vector.count.into(), count),
+            places: vector.readings.iter().map(|&reading| hold(reading.into(), level)).collect(),
+        }
+    }
+
+    /// The stick level that is worked with, in 0.1 mm.
+    fn worked_with(self, stick: i64) -> i64 {
+        match self {
+            Self::StickTo(millimetre) => 10 * millimetre.of(stick as u64) as i64,
+            Self::StickAsMillimetres => 10 * stick,
+            _ => stick,
+        }
+    }
+
+    fn allowance(self, given: &Given) -> i64 {
+        match self {
+            Self::AllowanceOf(mean) => {
+                let Over(sum, over) = given.mean(mean);
+                allowance(-(-10 * sum).div_euclid(over))
+            }
+            Self::AllowanceOf1500 => allowance(15_000),
+            Self::AllowanceOfStickTo(millimetre) => {
+                allowance(10 * millimetre.of(given.stick as u64) as i64)
+            }
+            Self::AllowanceOfMillimetres => allowance(10 * given.stick),
+            _ => allowance(given.stick),
         }
     }
 
@@ -229,7 +266,7 @@ impl Turn {
             if let Self::Counts(least, most) = self { (least, most) } else { (10, 20) };
         let by_count = (!(least..=most).contains(&given.count)).then_some(28);
         let by_level = (!self.levels_fit(given)).then_some(29);
-        let stick_alone = self == Self::StickBy16 && !(1..=3_600).contains(&given.stick);
+        let stick_alone = self == Self::StickBy16 && !(10..=36_000).contains(&given.stick);
         let found = match self {
             Self::LevelsBeforeCount => by_level.or(by_count),
             _ if stick_alone => by_count.or(Some(16)),
@@ -243,7 +280,11 @@ impl Turn {
     }
 
     fn levels_fit(self, given: &Given) -> bool {
-        let (low, high) = if let Self::Sticks(low, high) = self { (low, high) } else { (1, 3_600) };
+        let (low, high) = match self {
+            Self::Sticks(low, high) => (low, high),
+            Self::StickAsMillimetres => (1, 3_600),
+            _ => (10, 36_000),
+        };
         let stick = (low..=high).contains(&given.stick);
         let (low, high) =
             if let Self::Readings(low, high) = self { (low, high) } else { (1, 3_600) };
@@ -271,58 +312,75 @@ impl Turn {
         }
     }
 
-    /// In 0.01 mm.
+    /// In 0.01 mm, from the stick level in 0.1 mm.
     fn difference(self, stick: i64, Over(sum, over): Over) -> i64 {
         let product = match self {
             Self::StickTimesCountIn(word) => word.hold(stick * over),
             _ => stick * over,
         };
         let sum = if let Self::SumIn(word) = self { word.hold(sum) } else { sum };
-        let hundredfold = match self {
-            Self::HundredfoldIn(word) => word.hold(100 * (product - sum)),
-            _ => 100 * (product - sum),
+        let apart = match self {
+            Self::TenfoldSumIn(word) => product - word.hold(10 * sum),
+            _ => product - 10 * sum,
         };
+        let tenfold =
+            if let Self::TenfoldIn(word) = self { word.hold(10 * apart) } else { 10 * apart };
         let size = |rounding, unit: i64| {
-            rounded(rounding, hundredfold.unsigned_abs(), (over * unit) as u64) as i64 * unit
+            rounded(rounding, tenfold.unsigned_abs(), (over * unit) as u64) as i64 * unit
         };
-        let right = hundredfold.signum() * size(None, 1);
+        let right = tenfold.signum() * size(None, 1);
         match self {
-            Self::Size(rounding) => hundredfold.signum() * size(Some(rounding), 1),
-            Self::HalfUp => nearest(hundredfold, over),
-            Self::HalfDown => -nearest(-hundredfold, over),
-            Self::Floor => hundredfold.div_euclid(over),
-            Self::Ceiling => -(-hundredfold).div_euclid(over),
+            Self::Size(rounding) => tenfold.signum() * size(Some(rounding), 1),
+            Self::HalfUp => nearest(tenfold, over),
+            Self::HalfDown => -nearest(-tenfold, over),
+            Self::Floor => tenfold.div_euclid(over),
+            Self::Ceiling => -(-tenfold).div_euclid(over),
+            Self::InSingleFloatingPoint => {
+                (10.0 * (stick as f32 - (10 * sum) as f32 / over as f32)).round() as i64
+            }
             Self::SignTurned => -right,
             Self::WithoutSign => right.abs(),
-            Self::DifferenceTo(unit) => hundredfold.signum() * size(None, unit),
-            Self::MeanTo(unit) => 100 * stick - unit * nearest(100 * sum, over * unit),
-            Self::MeanCutTo(unit) => 100 * stick - unit * (100 * sum / (over * unit)),
+            Self::DifferenceTo(unit) => tenfold.signum() * size(None, unit),
+            Self::DifferenceIn1Of(parts) => {
+                let size = rounded(None, (parts * apart).unsigned_abs(), 10 * over as u64);
+                apart.signum() * size as i64
+            }
+            Self::MeanTo(unit) => 10 * stick - unit * nearest(100 * sum, over * unit),
+            Self::MeanCutTo(unit) => 10 * stick - unit * (100 * sum / (over * unit)),
             Self::DifferenceIn(word) => word.hold(right),
             _ => right,
         }
     }
 
     fn passes(self, given: &Given, Over(sum, over): Over, allowance: i64) -> bool {
-        let apart = given.stick * over - sum;
+        let stick = match self {
+            Self::PassByStickTo(millimetre) => 10 * millimetre.of(given.stick as u64) as i64,
+            _ => given.stick,
+        };
+        let apart = stick * over - 10 * sum;
         let size = apart.abs();
-        let by_rule = size <= 2 * over;
-        let near = |reading: &i64| (given.stick - reading).abs() <= 2;
+        let by_rule = size <= 20 * over;
+        let near = |reading: &i64| (given.stick - 10 * reading).abs() <= 20;
         let Self::Pass(pass) = self else { return by_rule };
         match pass {
-            Pass::Limit(limit, times) => 100 * size <= (limit + times * allowance) * over,
-            Pass::Below2 => size < 2 * over,
-            Pass::TenthsCut => 10 * size / over <= 20,
+            Pass::Limit(limit, times) => 10 * size <= (limit + times * allowance) * over,
+            Pass::Below2 => size < 20 * over,
+            Pass::TenthsCut => size / over <= 20,
             Pass::TenthsHalfDown => {
-                rounded(Some(Rounding::HalfDown), 10 * size as u64, over as u64) <= 20
+                rounded(Some(Rounding::HalfDown), size as u64, over as u64) <= 20
             }
-            Pass::WholeCut => size / over <= 2,
-            Pass::Whole => nearest(size, over) <= 2,
-            Pass::WholeMean => (given.stick - nearest(sum, over)).abs() <= 2,
-            Pass::NotBelow => apart <= 2 * over,
-            Pass::NotAbove => -apart <= 2 * over,
+            Pass::WholeCut => size / (10 * over) <= 2,
+            Pass::Whole => nearest(size, 10 * over) <= 2,
+            Pass::WholeMean => (given.stick - 10 * nearest(sum, over)).abs() <= 20,
+            Pass::NotBelow => apart <= 20 * over,
+            Pass::NotAbove => -apart <= 20 * over,
             Pass::EveryReading => given.readings().iter().all(near),
             Pass::AnyReading => given.readings().iter().any(near),
-            Pass::Sum(limit) => size <= limit,
+            Pass::Sum(limit) => size <= 10 * limit,
+            Pass::Tenths(limit) => size <= limit * over,
+            Pass::MillimetresInFloatingPoint => {
+                (given.stick as f64 / 10.0 - sum as f64 / over as f64).abs() <= 2.0
+            }
             Pass::Turned => !by_rule,
         }
     }
@@ -337,7 +395,20 @@ const TURNS: &[(&str, &[Turn])] = &[
     ("example-10-of-1498", &[Turn::Pass(Pass::Below2), Turn::Averaged(Mean::AllOver20)]),
     ("example-9-of-1498-and-1-of-1497", &[Turn::Pass(Pass::WholeMean), Turn::MeanTo(100)]),
     ("example-11-of-1500-and-1-of-1501", &[Turn::Floor, Turn::Averaged(Mean::WithoutLast)]),
-    ("none-at-3600-with-20", &[Turn::SumIn(Word::Unsigned(16)), Turn::Sticks(1, 3_599)]),
+    (
+        "example-stick-15004-10-of-1500-and-6-of-1501",
+        &[Turn::Size(Rounding::HalfToEven), Turn::DifferenceTo(10), Turn::StickTo(Cut)],
+    ),
+    ("example-stick-15020-20-of-1500", &[Turn::Pass(Pass::Below2), Turn::StickAsMillimetres]),
+    (
+        "example-stick-15021-20-of-1500",
+        &[Turn::PassByStickTo(Cut), Turn::Pass(Pass::Limit(210, 0))],
+    ),
+    ("example-stick-14979-20-of-1500", &[Turn::PassByStickTo(Next), Turn::PassByStickTo(Nearest)]),
+    ("none-at-15005-with-20", &[Turn::StickTo(Cut), Turn::StickTo(Next), Turn::MeanTo(100)]),
+    ("none-at-36000-with-20", &[Turn::SumIn(Word::Unsigned(16)), Turn::Sticks(10, 35_999)]),
+    ("tenths-1-above-with-10", &[Turn::StickTo(Cut), Turn::StickTo(Nearest), Turn::SignTurned]),
+    ("tenths-9-below-with-10", &[Turn::StickTo(Cut), Turn::StickTo(Nearest), Turn::WithoutSign]),
     (
         "none-though-readings-lie-far-apart",
         &[Turn::Averaged(Mean::Middle), Turn::Readings(2, 3_599)],
@@ -358,7 +429,10 @@ const TURNS: &[(&str, &[Turn])] = &[
     ("refusal-29-place-20-3601", &[Turn::Tested(Tested::NotLast), Turn::Readings(1, 3_601)]),
     ("unused-from-11-1600", &[Turn::Averaged(Mean::OneMore), Turn::Tested(Tested::UnusedNotZero)]),
     ("unused-from-20-4294967295", &[Turn::Tested(Tested::AllPlaces)]),
-    ("accepted-stick-1", &[Turn::Sticks(2, 3_600)]),
+    ("accepted-stick-10", &[Turn::Sticks(11, 36_000)]),
+    ("accepted-stick-11", &[Turn::Sticks(20, 36_000), Turn::StickTo(Cut)]),
+    ("accepted-stick-10001", &[Turn::AllowanceOfStickTo(Cut), Turn::AllowanceOfStickTo(Nearest)]),
+    ("accepted-stick-35999", &[Turn::Sticks(10, 35_990), Turn::StickTo(Cut)]),
     ("accepted-last-reading-3600", &[Turn::Readings(1, 3_599)]),
     ("accepted-10-readings", &[Turn::Counts(11, 20)]),
     ("accepted-20-readings", &[Turn::Counts(10, 19), Turn::Counts(10, 10)]),
@@ -367,16 +441,25 @@ const TURNS: &[(&str, &[Turn])] = &[
     ("refusal-28-number-in-8-bits", &[Turn::CountIn(Word::Unsigned(8))]),
     ("refusal-28-number-in-16-bits", &[Turn::CountIn(Word::Unsigned(16))]),
     ("refusal-28-number-in-31-bits", &[Turn::CountIn(Word::Unsigned(31))]),
-    ("refusal-28-number-that-is-negative-in-32-bits", &[Turn::Unsigned]),
+    ("refusal-28-number-that-is-negative-in-32-bits", &[Turn::Unsigned32]),
     ("refusal-28-number-9-unused-0", &[Turn::Counts(9, 20)]),
-    ("refusal-29-stick-0", &[Turn::Sticks(0, 3_600), Turn::Tested(Tested::NotStick)]),
+    ("refusal-29-stick-0", &[Turn::Sticks(0, 36_000), Turn::Tested(Tested::NotStick)]),
+    ("refusal-29-stick-1", &[Turn::Sticks(1, 36_000), Turn::StickAsMillimetres]),
+    ("refusal-29-stick-9", &[Turn::Sticks(9, 36_000)]),
+    ("refusal-29-stick-36001", &[Turn::Sticks(10, 36_001)]),
+    ("refusal-29-stick-36010", &[Turn::Sticks(10, 36_010)]),
+    ("refusal-29-stick-in-32-bits", &[Turn::LevelsIn(Word::Unsigned(32))]),
+    ("refusal-29-stick-in-48-bits", &[Turn::LevelsIn(Word::Unsigned(48))]),
+    ("refusal-29-stick-in-63-bits", &[Turn::LevelsIn(Word::Unsigned(63))]),
+    ("refusal-29-stick-that-is-negative-in-64-bits", &[Turn::Unsigned64]),
+    ("refusal-29-stick-times-16-in-64-bits", &[Turn::LevelsIn(Word::Unsigned(60))]),
     ("refusal-29-stick-in-16-bits", &[Turn::LevelsIn(Word::Unsigned(16))]),
     ("refusal-29-stick-in-31-bits", &[Turn::LevelsIn(Word::Unsigned(31))]),
-    ("refusal-29-stick-that-is-negative-in-32-bits", &[Turn::Unsigned]),
+    ("refusal-29-stick-that-is-negative-in-32-bits", &[Turn::Unsigned32]),
     ("refusal-29-reading-4001", &[Turn::Readings(1, 4_001), Turn::Tested(Tested::Mean)]),
     ("refusal-29-reading-in-16-bits", &[Turn::LevelsIn(Word::Unsigned(16))]),
     ("refusal-29-reading-in-31-bits", &[Turn::LevelsIn(Word::Unsigned(31))]),
-    ("refusal-29-reading-that-is-negative-in-32-bits", &[Turn::Unsigned]),
+    ("refusal-29-reading-that-is-negative-in-32-bits", &[Turn::Unsigned32]),
     ("parting-half-going-up", &[Turn::HalfUp]),
     ("parting-half-going-down", &[Turn::HalfDown]),
     ("parting-half-going-to-zero", &[Turn::Size(Rounding::HalfDown)]),
@@ -387,20 +470,57 @@ const TURNS: &[(&str, &[Turn])] = &[
     ("parting-rounded-up", &[Turn::Ceiling]),
     ("parting-sign-turned", &[Turn::SignTurned]),
     ("parting-sign-left-out", &[Turn::WithoutSign]),
-    ("parting-difference-in-whole-mm", &[Turn::DifferenceTo(100)]),
-    ("parting-difference-in-tenths", &[Turn::DifferenceTo(10)]),
+    ("parting-difference-rounded-to-whole-mm", &[Turn::DifferenceTo(100)]),
+    ("parting-difference-rounded-to-tenths", &[Turn::DifferenceTo(10)]),
     ("parting-mean-in-whole-mm", &[Turn::MeanTo(100)]),
     ("parting-mean-cut-to-whole-mm", &[Turn::MeanCutTo(100)]),
     ("parting-mean-in-tenths", &[Turn::MeanTo(10)]),
     ("parting-mean-in-hundredths", &[Turn::MeanTo(1)]),
+    ("parting-half-of-a-hundredth-going-to-zero", &[Turn::Size(Rounding::HalfDown)]),
+    ("parting-half-of-a-hundredth-below-going-up", &[Turn::HalfUp]),
+    ("parting-stick-in-mm", &[Turn::StickAsMillimetres]),
+    ("parting-stick-in-mm-at-a-level-of-the-tape", &[Turn::StickAsMillimetres]),
+    ("parting-stick-cut-to-mm", &[Turn::StickTo(Cut)]),
+    ("parting-stick-cut-to-mm-below", &[Turn::StickTo(Cut)]),
+    ("parting-stick-to-the-nearest-mm", &[Turn::StickTo(Nearest)]),
+    ("parting-stick-to-the-nearest-mm-goes-up", &[Turn::StickTo(Nearest)]),
+    ("parting-stick-up-to-the-next-mm", &[Turn::StickTo(Next)]),
+    ("parting-difference-shown-in-tenths", &[Turn::DifferenceIn1Of(10)]),
+    ("parting-difference-shown-in-micrometres", &[Turn::DifferenceIn1Of(1_000)]),
+    ("parting-difference-rounded-to-tenths-goes-to-zero", &[Turn::DifferenceTo(10)]),
+    ("parting-pass-by-the-stick-cut-to-mm", &[Turn::PassByStickTo(Cut)]),
+    ("parting-pass-by-the-stick-to-the-nearest-mm", &[Turn::PassByStickTo(Nearest)]),
+    ("parting-pass-by-the-stick-up-to-the-next-mm", &[Turn::PassByStickTo(Next)]),
+    ("parting-limit-of-2-tenths", &[Turn::Pass(Pass::Tenths(2))]),
+    ("parting-limit-of-20-mm", &[Turn::Pass(Pass::Tenths(200))]),
+    ("parting-limit-of-21-tenths", &[Turn::Pass(Pass::Tenths(21))]),
+    ("parting-limit-of-19-tenths", &[Turn::Pass(Pass::Tenths(19))]),
+    ("parting-allowance-of-the-stick-cut-to-mm", &[Turn::AllowanceOfStickTo(Cut)]),
+    ("parting-allowance-of-the-stick-to-the-nearest-mm", &[Turn::AllowanceOfStickTo(Nearest)]),
+    ("parting-allowance-of-tenths-as-mm", &[Turn::AllowanceOfMillimetres]),
     ("parting-sum-in-8-bits", &[Turn::SumIn(Word::Unsigned(8))]),
     ("parting-sum-in-16-bits", &[Turn::SumIn(Word::Unsigned(16))]),
     ("parting-sum-in-16-bits-with-sign", &[Turn::SumIn(Word::Signed(16))]),
     ("parting-stick-times-readings-in-16-bits", &[Turn::StickTimesCountIn(Word::Unsigned(16))]),
-    ("parting-hundredfold-in-16-bits-with-sign", &[Turn::HundredfoldIn(Word::Signed(16))]),
+    ("parting-tenfold-sum-in-16-bits", &[Turn::TenfoldSumIn(Word::Unsigned(16))]),
+    ("parting-tenfold-in-16-bits-with-sign", &[Turn::TenfoldIn(Word::Signed(16))]),
     ("parting-difference-in-8-bits-with-sign", &[Turn::DifferenceIn(Word::Signed(8))]),
     ("parting-difference-in-16-bits", &[Turn::DifferenceIn(Word::Unsigned(16))]),
     ("parting-difference-in-16-bits-with-sign", &[Turn::DifferenceIn(Word::Signed(16))]),
+    ("parting-difference-in-single-floating-point-with-17", &[Turn::InSingleFloatingPoint]),
+    ("parting-difference-in-single-floating-point-with-19", &[Turn::InSingleFloatingPoint]),
+    (
+        "parting-pass-by-mm-in-floating-point-with-10",
+        &[Turn::Pass(Pass::MillimetresInFloatingPoint)],
+    ),
+    (
+        "parting-pass-by-mm-in-floating-point-with-15",
+        &[Turn::Pass(Pass::MillimetresInFloatingPoint)],
+    ),
+    (
+        "parting-pass-by-mm-in-floating-point-with-20",
+        &[Turn::Pass(Pass::MillimetresInFloatingPoint)],
+    ),
     ("parting-mean-over-20", &[Turn::Averaged(Mean::Over(20))]),
     ("parting-mean-over-10", &[Turn::Averaged(Mean::Over(10))]),
     ("parting-all-places-summed", &[Turn::Averaged(Mean::AllOverCount)]),
@@ -446,10 +566,14 @@ const TURNS: &[(&str, &[Turn])] = &[
     ("parting-21-readings-taken", &[Turn::Counts(10, 21)]),
     ("parting-only-10-readings-taken", &[Turn::Counts(10, 10)]),
     ("parting-29-for-28", &[Turn::For(28, 29)]),
-    ("parting-stick-0-taken", &[Turn::Sticks(0, 3_600)]),
-    ("parting-stick-1-refused", &[Turn::Sticks(2, 3_600)]),
-    ("parting-stick-3600-refused", &[Turn::Sticks(1, 3_599)]),
-    ("parting-stick-3601-taken", &[Turn::Sticks(1, 3_601)]),
+    ("parting-stick-0-taken", &[Turn::Sticks(0, 36_000)]),
+    ("parting-stick-1-taken", &[Turn::Sticks(1, 36_000)]),
+    ("parting-stick-9-taken", &[Turn::Sticks(9, 36_000)]),
+    ("parting-stick-10-refused", &[Turn::Sticks(11, 36_000)]),
+    ("parting-stick-above-3600-refused", &[Turn::Sticks(10, 3_600), Turn::StickAsMillimetres]),
+    ("parting-stick-36000-refused", &[Turn::Sticks(10, 35_999)]),
+    ("parting-stick-36001-taken", &[Turn::Sticks(10, 36_001)]),
+    ("parting-stick-36009-taken", &[Turn::Sticks(10, 36_009)]),
     ("parting-stick-not-tested", &[Turn::Tested(Tested::NotStick)]),
     ("parting-16-for-the-stick", &[Turn::StickBy16]),
     ("parting-reading-0-taken", &[Turn::Readings(0, 3_600)]),

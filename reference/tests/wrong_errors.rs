@@ -1,13 +1,16 @@
 //! A second calculation of the permitted error that can take a wrong turn: each turn must show in the
 //! answer of the vectors made for it.
 
+mod millimetres;
 mod roundings;
 mod turns;
 
 use reference::car::{Car, Figures};
 use reference::conformance::vectors::{all, permitted::Vector};
 use reference::operations::{self, HandedIn};
+use reference::table::Row;
 
+use millimetres::Millimetre::{self, Cut, Nearest, Next};
 use roundings::{rounded, Rounding};
 
 /// Places where the rules round.
@@ -19,6 +22,14 @@ enum Term {
     Factor,
     DensityByFactor,
     TemperatureByFactor,
+}
+
+/// Ten times a reading or the water level, the sum of ten times the readings, or twice that sum.
+#[derive(Clone, Copy, Debug, PartialEq, Eq)]
+enum Held {
+    Tenfold,
+    Sum,
+    TwiceTheSum,
 }
 
 #[derive(Clone, Copy, Debug, PartialEq, Eq)]
@@ -33,6 +44,15 @@ enum Turn {
     PairAroundWater,
     PairAroundFirstReading,
     PairOfFirstTable,
+    /// The rows around the level brought to whole mm, or V0 at it.
+    PairAround(Millimetre),
+    VolumeAtMean(Millimetre),
+    /// Rows in mm searched for a level in tenths.
+    RowsNotTimesTen,
+    LevelStepInTenths,
+    LevelErrorInMillimetres,
+    /// A number that the mean level comes of held in 32 bits.
+    In32Bits(Held),
     VolumeWithWater,
     VolumeAt15,
     StepsExchanged,
@@ -64,6 +84,7 @@ enum Turn {
     LessThanAllowed,
 }
 
+use Held::{Sum, Tenfold, TwiceTheSum};
 use Rounding::{Down, HalfDown, HalfToEven, Up};
 use Term::{
     DensityByFactor, DensityTemperature, Factor, Level, OilTemperature, TemperatureByFactor,
@@ -74,6 +95,30 @@ const ONE: u64 = 10_000_000_000;
 
 /// What a caller sees: figures, n and whether it is within, or the refusal.
 type Seen = Result<(Figures, u64, bool), u32>;
+
+impl Held {
+    /// The car at the mean level and above the water level that come out, cut to mm.
+    fn car(self, car: Car) -> Car {
+        let hold = |held, number: u64| if self == held { number % (1 << 32) } else { number };
+        let tenfold = |mm: &u32| hold(Tenfold, 10 * u64::from(*mm));
+        let used = used(car.readings);
+        let count = used.len() as u64;
+        let sum = hold(Sum, used.iter().map(tenfold).sum());
+        let level = hold(TwiceTheSum, 2 * sum + count) / (2 * count);
+        let [level, water_level] = [level, tenfold(&car.water_level)].map(|of| (of / 10) as u32);
+        Car { given: 2, readings: [level, level, 0, 0], water_level, ..car }
+    }
+}
+
+/// The readings whose mean is taken: the first two where they agree, else the three closest.
+fn used(mut readings: [u32; 4]) -> Vec<u32> {
+    if readings[0].abs_diff(readings[1]) <= 1 {
+        return readings[..2].to_vec();
+    }
+    readings.sort_unstable();
+    let by_span = |three: &&[u32]| three[2] - three[0];
+    readings.windows(3).min_by_key(by_span).expect("three readings").to_vec()
+}
 
 impl Turn {
     fn round(self, term: Term, dividend: u64, divisor: u64) -> u64 {
@@ -95,7 +140,8 @@ impl Turn {
         if wrong && self == Self::ErrorsBeforeCar {
             return Err(24);
         }
-        let figures = operations::work_out(&vector.tables, &vector.car);
+        let car = if let Self::In32Bits(held) = self { held.car(vector.car) } else { vector.car };
+        let figures = operations::work_out(&vector.tables, &car);
         let figures = figures.map_err(|refusal| refusal.number())?;
         let level_term = self.level_term(vector, &figures, errors[5]);
         if wrong && !(self == Self::LevelTermBeforeErrors && level_term.is_err()) {
@@ -116,12 +162,16 @@ impl Turn {
 
     fn level_term(self, vector: &Vector, figures: &Figures, error: u64) -> Result<u64, u32> {
         let (level_step, capacity_step) = self.steps(vector, figures.level);
+        let worked_out = |car: Car| {
+            operations::work_out(&vector.tables, &car).expect("a car that is accepted").volume
+        };
         let volume = match self {
-            Self::VolumeWithWater => {
-                let whole = Car { water_level: 0, ..vector.car };
-                operations::work_out(&vector.tables, &whole).expect("without water").volume
-            }
+            Self::VolumeWithWater => worked_out(Car { water_level: 0, ..vector.car }),
             Self::VolumeAt15 => figures.volume_at_15,
+            Self::VolumeAtMean(millimetre) => {
+                let level = millimetre.of(figures.level.into()) as u32;
+                worked_out(Car { given: 2, readings: [level, level, 0, 0], ..vector.car })
+            }
             _ => figures.volume,
         };
         if volume == 0 {
@@ -130,8 +180,10 @@ impl Turn {
             return if accepted { Ok(0) } else { Err(25) };
         }
         // an error that is out of its range may be any number of 32 bits
-        let dividend = (10_000_000 * error).saturating_mul(capacity_step);
-        let divisor = level_step * u64::from(volume);
+        let unit = if self == Self::LevelErrorInMillimetres { 10 } else { 1 };
+        let dividend = (10_000_000 * unit * error).saturating_mul(capacity_step);
+        let unit = if self == Self::LevelStepInTenths { 10 } else { 1 };
+        let divisor = unit * level_step * u64::from(volume);
         let term = self.round(Level, dividend, divisor);
         let tested =
             if self == Self::ComparedBeforeRounding { dividend.div_ceil(divisor) } else { term };
@@ -142,7 +194,7 @@ impl Turn {
         Ok(if self == Self::LeftOut(5) { 0 } else { term })
     }
 
-    /// Level step and capacity step of the rows around the level.
+    /// Level step and capacity step of the rows around the level in 0.1 mm.
     fn steps(self, vector: &Vector, level: u32) -> (u64, u64) {
         let own = |table: &&HandedIn| table.car_type == vector.car.car_type;
         let table = match self {
@@ -151,15 +203,18 @@ impl Turn {
         };
         let rows = &table.expect("a table").rows;
         let level = match self {
-            Self::PairAroundWater => vector.car.water_level,
-            Self::PairAroundFirstReading => vector.car.readings[0],
+            Self::PairAroundWater => 10 * vector.car.water_level,
+            Self::PairAroundFirstReading => 10 * vector.car.readings[0],
+            Self::PairAround(millimetre) => 10 * millimetre.of(level.into()) as u32,
+            Self::RowsNotTimesTen => 10 * level,
             _ => level,
         };
-        let mut upper = rows.iter().position(|row| level <= row.level).unwrap_or(rows.len() - 1);
-        if self == Self::UpperPairOnARow && level == rows[upper].level {
+        let reached = |row: &Row| level <= 10 * row.level;
+        let mut upper = rows.iter().position(reached).unwrap_or(rows.len() - 1);
+        if self == Self::UpperPairOnARow && level == 10 * rows[upper].level {
             upper += 1;
         }
-        if self == Self::LowerPairAboveARow && level == rows[upper - 1].level + 1 {
+        if self == Self::LowerPairAboveARow && level <= 10 * (rows[upper - 1].level + 1) {
             upper -= 1;
         }
         let upper = upper.clamp(1, rows.len() - 1);
@@ -262,9 +317,35 @@ const TURNS: &[(&str, &[Turn])] = &[
     ("parting-v0-with-the-water", &[Turn::VolumeWithWater]),
     ("parting-v15-for-v0", &[Turn::VolumeAt15]),
     ("parting-steps-exchanged", &[Turn::StepsExchanged]),
-    ("level-1500-in-table-2-of-four", &[Turn::PairOfFirstTable, Turn::UpperPairOnARow]),
-    ("level-1500-in-table-3-of-four", &[Turn::PairOfFirstTable, Turn::UpperPairOnARow]),
-    ("level-1500-in-table-4-of-four", &[Turn::PairOfFirstTable, Turn::UpperPairOnARow]),
+    ("level-15000-in-table-2-of-four", &[Turn::PairOfFirstTable, Turn::UpperPairOnARow]),
+    ("level-15000-in-table-3-of-four", &[Turn::PairOfFirstTable, Turn::UpperPairOnARow]),
+    ("level-15000-in-table-4-of-four", &[Turn::PairOfFirstTable, Turn::UpperPairOnARow]),
+    ("parting-rows-around-the-level-cut-to-mm", &[Turn::PairAround(Cut), Turn::LowerPairAboveARow]),
+    ("parting-rows-around-the-level-cut-to-mm-less-steep-above", &[Turn::PairAround(Cut)]),
+    ("parting-rows-around-the-nearest-mm", &[Turn::PairAround(Nearest), Turn::PairAround(Cut)]),
+    ("parting-rows-around-the-nearest-mm-less-steep-above", &[Turn::PairAround(Nearest)]),
+    ("parting-rows-not-times-ten", &[Turn::RowsNotTimesTen]),
+    ("parting-level-step-in-tenths", &[Turn::LevelStepInTenths]),
+    ("parting-level-error-in-mm", &[Turn::LevelErrorInMillimetres]),
+    ("parting-volume-at-the-level-cut-to-mm", &[Turn::VolumeAtMean(Cut), Turn::VolumeAtMean(Next)]),
+    ("parting-volume-at-the-nearest-mm", &[Turn::VolumeAtMean(Nearest), Turn::VolumeAtMean(Cut)]),
+    ("refusal-16-readings-times-10-in-32-bits", &[Turn::In32Bits(Tenfold), Turn::In32Bits(Sum)]),
+    ("refusal-16-first-two-of-four-times-10-in-32-bits", &[Turn::In32Bits(Tenfold)]),
+    ("refusal-16-three-of-four-times-10-in-32-bits", &[Turn::In32Bits(Tenfold)]),
+    ("refusal-16-readings-times-10-in-32-bits-in-table-1-of-four", &[Turn::In32Bits(Tenfold)]),
+    ("refusal-16-readings-times-10-in-32-bits-in-table-4-of-four", &[Turn::In32Bits(Tenfold)]),
+    ("refusal-16-sum-of-two-in-32-bits", &[Turn::In32Bits(Sum), Turn::In32Bits(TwiceTheSum)]),
+    ("refusal-16-sum-of-three-in-32-bits", &[Turn::In32Bits(Sum), Turn::In32Bits(TwiceTheSum)]),
+    ("refusal-16-twice-the-sum-of-two-in-32-bits", &[Turn::In32Bits(TwiceTheSum)]),
+    ("refusal-16-twice-the-sum-of-three-in-32-bits", &[Turn::In32Bits(TwiceTheSum)]),
+    ("refusal-17-water-level-times-10-in-32-bits", &[Turn::In32Bits(Tenfold)]),
+    ("refusal-17-water-level-times-10-in-32-bits-with-a-mean-of-three", &[Turn::In32Bits(Tenfold)]),
+    ("refusal-17-water-level-times-10-in-32-bits-in-table-2-of-four", &[Turn::In32Bits(Tenfold)]),
+    ("level-10005", &[Turn::PairAround(Cut), Turn::LevelStepInTenths]),
+    ("level-20003", &[Turn::PairAround(Nearest), Turn::LevelErrorInMillimetres]),
+    ("rack-car-15005", &[Turn::LevelErrorInMillimetres, Turn::LevelStepInTenths]),
+    ("refusal-25-level-term-10005", &[Turn::VolumeAtMean(Next), Turn::LargestLevelTerm(10_005)]),
+    ("refusal-25-no-volume-at-17.5-mm", &[Turn::VolumeAtMean(Nearest), Turn::NoVolumeAccepted]),
     ("parting-factor-upside-down", &[Turn::FactorUpsideDown, Turn::FactorOne]),
     ("parting-15-degrees-above-the-line", &[Turn::FactorOne, Turn::FactorUpsideDown]),
     ("parting-20-degrees-below-the-line", &[Turn::FactorFrom20, Turn::FactorUpsideDown]),

@@ -1,15 +1,16 @@
 //! A second calculation that can take a wrong turn: each turn must show on the sheet made for it.
 
+mod millimetres;
 mod roundings;
 
 use reference::conformance::cases;
 
+use millimetres::Millimetre;
 use roundings::{rounded, Rounding};
 
 /// Places where the rules round.
 #[derive(Clone, Copy, Debug, PartialEq, Eq)]
 enum Step {
-    MeanOfTwo,
     MeanOfThree,
     Capacity,
     VolumeAtTemperature,
@@ -39,6 +40,21 @@ enum Turn {
     SpanOfLowerTriple,
     SpanOfUpperTriple,
     SpanThoughFirstTwoAgree,
+    /// The mean level brought to whole mm: for all that comes of it, on the A line, for 16, for 17, for its
+    /// capacity.
+    MeanTo(Millimetre),
+    ShownTo(Millimetre),
+    EndComparedTo(Millimetre),
+    WaterComparedTo(Millimetre),
+    CapacityAt(Millimetre),
+    WaterComparedWithLowest,
+    /// Twice ten times the sum, with the number of readings added, in so many bits.
+    MeanIn(u32),
+    ReadingsTimesTen,
+    LowestLevel(u64),
+    EndNotTimesTen,
+    WaterNotTimesTen,
+    RowsNotTimesTen,
     SticksMixedUp,
     NetTotalFromGrossTotal,
     FiveTerms,
@@ -53,10 +69,11 @@ enum Turn {
     AllFromGrade4,
 }
 
+use Millimetre::{Cut, Nearest, Next};
 use Rounding::{Down, HalfDown, HalfToEven, Up};
 use Step::{
-    Capacity, Coefficient, Density20, Exponent, Gross, MeanOfThree, MeanOfTwo, Net, Term,
-    VolumeAt15, VolumeAtTemperature,
+    Capacity, Coefficient, Density20, Exponent, Gross, MeanOfThree, Net, Term, VolumeAt15,
+    VolumeAtTemperature,
 };
 
 impl Turn {
@@ -68,24 +85,66 @@ impl Turn {
         rounded(rounding, dividend, divisor)
     }
 
-    /// The mean level, or refusal 23.
+    /// The mean level in 0.1 mm, or refusal 15 or 23.
     fn mean_level(self, given: u64, readings: &[u64]) -> Result<u64, u64> {
+        let unit = if self == Self::ReadingsTimesTen { 10 } else { 1 };
         let (first, second) = (readings[0], readings[1]);
-        let mean_of_two = self.round(MeanOfTwo, first + second, 2);
+        let mean_of_two = match self {
+            Self::MeanIn(bits) => (20 * (first + second) + 2) % (1 << bits) / 4,
+            _ => 5 * (first + second),
+        };
+        let agree = unit * first.abs_diff(second) <= 1;
         if given == 2 {
-            return Ok(mean_of_two);
+            return if agree { Ok(mean_of_two) } else { Err(15) };
         }
         if self == Self::AverageOfFour {
-            return Ok(self.round(MeanOfThree, readings.iter().sum(), 4));
+            return Ok(self.round(MeanOfThree, 10 * readings.iter().sum::<u64>(), 4));
         }
         let mut sorted = readings.to_vec();
         sorted.sort();
         let three = self.three_closest(&sorted);
-        let agree = first.abs_diff(second) <= 1 && self != Self::ThreeClosestAlways;
-        if self.is_apart(&sorted, three) && (!agree || self == Self::SpanThoughFirstTwoAgree) {
+        let agree = agree && self != Self::ThreeClosestAlways;
+        if self.is_apart(&sorted, three, unit) && (!agree || self == Self::SpanThoughFirstTwoAgree)
+        {
             return Err(23);
         }
-        Ok(if agree { mean_of_two } else { self.round(MeanOfThree, three.iter().sum(), 3) })
+        let sum: u64 = three.iter().sum();
+        Ok(match self {
+            _ if agree => mean_of_two,
+            Self::MeanIn(bits) => (20 * sum + 3) % (1 << bits) / 6,
+            _ => self.round(MeanOfThree, 10 * sum, 3),
+        })
+    }
+
+    /// The mean level where 15, 23, 16 and 17 do not turn the car away.
+    fn level(self, rows: &[(u64, u64)], car: &[u64]) -> Result<u64, u64> {
+        let level = self.mean_level(car[4], &car[5..9])?;
+        let level =
+            if let Self::MeanTo(millimetre) = self { 10 * millimetre.of(level) } else { level };
+        let end = rows[rows.len() - 1].0 * if self == Self::EndNotTimesTen { 1 } else { 10 };
+        let to_end = if let Self::EndComparedTo(millimetre) = self {
+            10 * millimetre.of(level)
+        } else {
+            level
+        };
+        let lowest = if let Self::LowestLevel(lowest) = self { lowest } else { 1 };
+        if level < lowest || to_end > end {
+            return Err(16);
+        }
+        let over_water = match self {
+            Self::WaterComparedTo(millimetre) => 10 * millimetre.of(level),
+            Self::WaterComparedWithLowest => 10 * car[5].min(car[6]),
+            _ => level,
+        };
+        if self.water_level(car) >= over_water {
+            return Err(17);
+        }
+        Ok(level)
+    }
+
+    /// The water level in 0.1 mm.
+    fn water_level(self, car: &[u64]) -> u64 {
+        car[9] * if self == Self::WaterNotTimesTen { 1 } else { 10 }
     }
 
     fn three_closest(self, sorted: &[u64]) -> &[u64] {
@@ -99,7 +158,7 @@ impl Turn {
     }
 
     /// Whether three of four sorted readings span too much.
-    fn is_apart(self, sorted: &[u64], three: &[u64]) -> bool {
+    fn is_apart(self, sorted: &[u64], three: &[u64], unit: u64) -> bool {
         let tested = match self {
             Self::SpanOfAllFour => sorted,
             Self::SpanOfLowerTriple => &sorted[..3],
@@ -107,13 +166,16 @@ impl Turn {
             _ => three,
         };
         let limit = if let Self::SpanLimit(limit) = self { limit } else { 3 };
-        tested[tested.len() - 1] - tested[0] > limit
+        unit * (tested[tested.len() - 1] - tested[0]) > limit
     }
 
-    /// Oil volume at 20 °C.
+    /// Oil volume at 20 °C, from levels in 0.1 mm.
     fn volume(self, rows: &[(u64, u64)], level: u64, water: u64) -> u64 {
-        let (oil, oil_step) = fraction(rows, level);
-        let (water, water_step) = fraction(rows, water);
+        let level =
+            if let Self::CapacityAt(millimetre) = self { 10 * millimetre.of(level) } else { level };
+        let unit = if self == Self::RowsNotTimesTen { 1 } else { 10 };
+        let (oil, oil_step) = fraction(rows, level, unit);
+        let (water, water_step) = fraction(rows, water, unit);
         if self == Self::CapacitiesRoundedOnce {
             let difference = oil * water_step - water * oil_step;
             return self.round(Capacity, difference, oil_step * water_step);
@@ -149,17 +211,17 @@ impl Turn {
         plus - minus
     }
 
-    /// The figures of a car that no other refusals than 21 and 23 turn away.
+    /// The figures of a car that no other refusals than 15 to 17, 21 and 23 turn away.
     fn figures(self, rows: &[(u64, u64)], car: &[u64]) -> Result<[u64; 6], u64> {
         let (number, grade, stick, temperature, density) =
             (car[0], car[2], car[3], car[10], car[11]);
-        let level = self.mean_level(car[4], &car[5..9])?;
+        let level = self.level(rows, car)?;
         let density_at_20 =
             self.round(Density20, density * self.contraction(density, 50), 10_000_000_000);
         if grade == 1 && density_at_20 > 9_550 || grade == 2 && density_at_20 > 9_600 {
             return Err(21);
         }
-        let volume = self.volume(rows, level, car[9]);
+        let volume = self.volume(rows, level, self.water_level(car));
         let steel = (stick == 1) != (self == Self::SticksMixedUp);
         let wall = temperature - if self == Self::WallFrom15 { 150 } else { 200 };
         let factor = 20_000_000 + if steel { 100 } else { 121 } * wall;
@@ -174,10 +236,11 @@ impl Turn {
         } else {
             self.round(Net, gross * share, 10_000)
         };
-        Ok([number, level, volume, volume_at_15, gross, net])
+        let shown = if let Self::ShownTo(millimetre) = self { millimetre.of(level) } else { level };
+        Ok([number, shown, volume, volume_at_15, gross, net])
     }
 
-    /// The listing of a sheet with one table and no other refusals than 21 and 23.
+    /// The listing of a sheet with one table and no other refusals than 15 to 17, 21 and 23.
     fn listing(self, sheet: &[u8]) -> String {
         let text = std::str::from_utf8(sheet).unwrap();
         let numbers = |line: &str| -> Vec<u64> {
@@ -247,11 +310,13 @@ impl Turn {
     }
 }
 
-/// A hundred times the capacity at a level, as dividend and divisor.
-fn fraction(rows: &[(u64, u64)], level: u64) -> (u64, u64) {
-    let pair = rows.windows(2).find(|pair| level <= pair[1].0).unwrap();
+/// A hundred times the capacity at a level in 0.1 mm, as dividend and divisor, by the last rows where the
+/// table does not reach it; the rows' levels are taken times so much.
+fn fraction(rows: &[(u64, u64)], level: u64, unit: u64) -> (u64, u64) {
+    let pair = rows.windows(2).find(|pair| level <= unit * pair[1].0);
+    let pair = pair.unwrap_or(&rows[rows.len() - 2..]);
     let ((low, low_capacity), (high, high_capacity)) = (pair[0], pair[1]);
-    let step = high - low;
+    let (low, step) = (unit * low, unit * (high - low));
     (100 * (low_capacity * step + (high_capacity - low_capacity) * (level - low)), step)
 }
 
@@ -286,12 +351,49 @@ const TURNS: &[(&str, &[Turn])] = &[
     ("totals-without-cars-refused-by-23", &[Turn::SpanLimit(4), Turn::RefusedCarCounted]),
     ("parting-sticks-mixed-up", &[Turn::SticksMixedUp]),
     ("parting-net-total-from-gross-total", &[Turn::NetTotalFromGrossTotal]),
+    ("parting-mean-level-rounded-to-mm", &[Turn::MeanTo(Nearest), Turn::MeanTo(Next)]),
+    ("parting-mean-level-cut-to-mm", &[Turn::MeanTo(Cut)]),
+    ("parting-mean-level-shown-in-mm", &[Turn::ShownTo(Cut), Turn::ShownTo(Nearest)]),
+    ("parting-readings-times-ten-before-they-are-compared", &[Turn::ReadingsTimesTen]),
+    ("parting-levels-below-1-mm-refused", &[Turn::LowestLevel(10), Turn::MeanTo(Nearest)]),
+    ("parting-mean-of-three-in-32-bits", &[Turn::MeanIn(32)]),
+    ("parting-mean-of-two-in-31-bits", &[Turn::MeanIn(31)]),
+    ("parting-last-level-not-times-ten", &[Turn::EndNotTimesTen]),
+    ("parting-last-level-compared-with-the-mean-cut-to-mm", &[Turn::EndComparedTo(Cut)]),
+    ("parting-last-level-compared-with-the-nearest-mm", &[Turn::EndComparedTo(Nearest)]),
+    ("parting-water-level-not-times-ten", &[Turn::WaterNotTimesTen]),
+    ("parting-water-level-compared-with-the-mean-cut-to-mm", &[Turn::WaterComparedTo(Cut)]),
+    ("parting-water-level-compared-with-the-nearest-mm", &[Turn::WaterComparedTo(Nearest)]),
+    ("parting-water-level-compared-with-the-lowest-reading", &[Turn::WaterComparedWithLowest]),
+    ("parting-capacity-at-the-mean-cut-to-mm", &[Turn::CapacityAt(Cut)]),
+    ("parting-capacity-at-the-nearest-mm", &[Turn::CapacityAt(Nearest)]),
+    ("parting-capacity-at-the-next-mm", &[Turn::CapacityAt(Next)]),
+    ("parting-rows-not-times-ten", &[Turn::RowsNotTimesTen]),
     (
-        "rounding-mean-of-two-half-goes-up",
+        "accepted-levels-of-3-5-and-7-tenths",
+        &[Turn::LowestLevel(10), Turn::LowestLevel(4), Turn::MeanTo(Cut), Turn::MeanTo(Next)],
+    ),
+    (
+        "accepted-tenths-of-two-and-of-three-readings",
+        &[Turn::MeanTo(Nearest), Turn::Round(MeanOfThree, Down), Turn::Round(MeanOfThree, Up)],
+    ),
+    ("accepted-levels-by-tenths-around-rows", &[Turn::CapacityAt(Cut), Turn::MeanTo(Next)]),
+    (
+        "refusal-16-above-last-level-by-tenths",
+        &[Turn::EndComparedTo(Cut), Turn::EndComparedTo(Nearest), Turn::MeanTo(Nearest)],
+    ),
+    (
+        "refusal-17-water-level-around-tenths",
+        &[Turn::WaterComparedTo(Cut), Turn::WaterComparedTo(Nearest), Turn::MeanTo(Nearest)],
+    ),
+    (
+        "rounding-capacity-at-tenths-half-goes-up",
         &[
-            Turn::Round(MeanOfTwo, Down),
-            Turn::Round(MeanOfTwo, HalfDown),
-            Turn::Round(MeanOfTwo, HalfToEven),
+            Turn::Round(Capacity, Down),
+            Turn::Round(Capacity, Up),
+            Turn::Round(Capacity, HalfDown),
+            Turn::Round(Capacity, HalfToEven),
+            Turn::CapacityAt(Cut),
         ],
     ),
     ("rounding-mean-of-three", &[Turn::Round(MeanOfThree, Down), Turn::Round(MeanOfThree, Up)]),
@@ -398,6 +500,19 @@ fn every_wrong_turn_shows_on_its_sheet() {
         assert_eq!(Turn::None.listing(&case.sheet), listing, "{name}");
         for turn in *turns {
             assert_ne!(turn.listing(&case.sheet), listing, "{name}: {turn:?} does not show");
+        }
+    }
+}
+
+/// A whole number of mm lies below a level, or reaches it, exactly where it does so for the next whole mm:
+/// for these two comparisons that way is no wrong one.
+#[test]
+fn to_compare_the_next_millimetre_is_to_compare_tenths() {
+    for case in cases() {
+        let turns = TURNS.iter().filter(|(name, _)| *name == case.name);
+        for turn in turns.flat_map(|_| [Turn::EndComparedTo(Next), Turn::WaterComparedTo(Next)]) {
+            let listing = String::from_utf8_lossy(&case.listing);
+            assert_eq!(turn.listing(&case.sheet), listing, "{}: {turn:?}", case.name);
         }
     }
 }

@@ -5,7 +5,7 @@ use mathlib.Core.Path.{_≡_, refl, sym, ap, subst}
 use mathlib.Core.List.{List, [], _∷_, _++_}
 use native.Mathlib.Nat.{not-le-of-lt}
 use native.Mathlib.Omega.{arith}
-use Rattle.base.specs.Limits.{inUnits}
+use Rattle.base.specs.Limits.{inTenths}
 use Rattle.base.specs.Answer.{Verdict, accepts, refuses, first, Answer, answer}
 use Rattle.base.proofs.Answer.{accepted-parts}
 use Rattle.table.specs.Table.{Row, Table, lastLevel}
@@ -26,7 +26,7 @@ record Found (rows : List Row) (level : ℕ) (g : Gap) : Type 0 where
   follows : Follows (g .low) (g .high)
 
 -- the first two rows
-here : {level : ℕ} (low high : Row) (rows : List Row) → Follows low high → inUnits (low .level) < level → level ≤ inUnits (high .level)
+here : {level : ℕ} (low high : Row) (rows : List Row) → Follows low high → inTenths (low .level) < level → level ≤ inTenths (high .level)
     → Found (low ∷ high ∷ rows) level (record { low = low; high = high })
 here low high rows f p a = record { around = record { before = []; after = rows; neighbours = refl; passed = p; reached = a }; follows = f }
 
@@ -44,14 +44,14 @@ under row h = record {
 }
 
 -- the rows found after a row that does not reach the level
-after-found : (low high : Row) (rows : List Row) → RisingFrom low (high ∷ rows) → (h : ℕ) → inUnits (low .level) < h → h ≤ inUnits (lastLevel (high ∷ rows))
+after-found : (low high : Row) (rows : List Row) → RisingFrom low (high ∷ rows) → (h : ℕ) → inTenths (low .level) < h → h ≤ inTenths (lastLevel (high ∷ rows))
     → Found (low ∷ high ∷ rows) h (gapAfter low (high ∷ rows) h)
 after-found low high [] (f, rest) h p q =
-    by-leb (λ g. Found (low ∷ high ∷ []) h g) h (inUnits (high .level)) (λ a. here low high [] f p a) (λ b. absurd (not-le-of-lt b q))
+    by-leb (λ g. Found (low ∷ high ∷ []) h g) h (inTenths (high .level)) (λ a. here low high [] f p a) (λ b. absurd (not-le-of-lt b q))
 after-found low high (next ∷ rows) (f, rest) h p q =
-    by-leb (λ g. Found (low ∷ high ∷ next ∷ rows) h g) h (inUnits (high .level)) (λ a. here low high (next ∷ rows) f p a) (λ b. under low (after-found high next rows rest h b q))
+    by-leb (λ g. Found (low ∷ high ∷ next ∷ rows) h g) h (inTenths (high .level)) (λ a. here low high (next ∷ rows) f p a) (λ b. under low (after-found high next rows rest h b q))
 
-rows-found : (rows : List Row) → Rising rows → {h : ℕ} → 0 < h → h ≤ inUnits (lastLevel rows) → Found rows h (rowsAround rows h)
+rows-found : (rows : List Row) → Rising rows → {h : ℕ} → 0 < h → h ≤ inTenths (lastLevel rows) → Found rows h (rowsAround rows h)
 rows-found [] r p q = absurd r
 rows-found (row ∷ []) r p q = absurd r
 rows-found (row ∷ next ∷ rows) (z, _, r) {h} p q = after-found row next rows r h (omega (arith, z)) q

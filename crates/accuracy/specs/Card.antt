@@ -30,7 +30,7 @@ annexCar = 1 ∷ 1 ∷ 4 ∷ 1 ∷ 2 ∷ 2_904 ∷ 2_904 ∷ 0 ∷ 0 ∷ 100 ∷
 abbrev bentTables : List Table
 bentTables = table ((0, 0) ∷ (1_000, 1_000) ∷ (2_000, 31_000) ∷ [])
 
--- one that holds 1 dm³ in all, so that V0 is 0 up to 17 mm
+-- one that holds 1 dm³ in all, so that V0 is 0 up to 17.9 mm
 abbrev flatTables : List Table
 flatTables = table ((0, 0) ∷ (3_600, 1) ∷ [])
 
@@ -83,9 +83,10 @@ shows ts ns es card =
 
 unfoldable pub termsCard : List TermsCase
 termsCard =
-    -- the first car; on a row, then just above it; a smaller limit; annex Д; no errors at all
+    -- the first car; on a row, then half a mm and 1 mm above it; a smaller limit; annex Д; no errors at all
     shows cardTables firstCar ordinary (2_571 ∷ 359 ∷ 359 ∷ 1_063_338 ∷ 1_701 ∷ 382 ∷ 35_028_247 ∷ [])
     ∷ shows cardTables (at 1_000 0) ordinary (3_000 ∷ 359 ∷ 359 ∷ 1_063_338 ∷ 1_701 ∷ 382 ∷ 37_418_206 ∷ [])
+    ∷ shows cardTables (withDip 2 1_000 1_001 0 0 0) ordinary (4_497 ∷ 359 ∷ 359 ∷ 1_063_338 ∷ 1_701 ∷ 382 ∷ 48_641_215 ∷ [])
     ∷ shows cardTables (at 1_001 0) ordinary (4_493 ∷ 359 ∷ 359 ∷ 1_063_338 ∷ 1_701 ∷ 382 ∷ 48_605_255 ∷ [])
     ∷ shows cardTables (at 2_000 0) (2_500 ∷ 500 ∷ 500 ∷ 2 ∷ 2 ∷ 20 ∷ []) (1_200 ∷ 144 ∷ 144 ∷ 1_063_338 ∷ 532 ∷ 153 ∷ 8_267_169 ∷ [])
     ∷ shows annexTables annexCar (5_000 ∷ 1_586 ∷ 500 ∷ 5 ∷ 5 ∷ 30 ∷ []) (500 ∷ 353 ∷ 353 ∷ 1_051_596 ∷ 1_668 ∷ 371 ∷ 28_544_474 ∷ [])
@@ -140,23 +141,24 @@ refused n ns es = gives cardTables ns es (refusal n)
 
 unfoldable pub card : List Case
 card =
-    limits firstCar ordinary (50_000_001 ∷ 1_500 ∷ 3_500_000 ∷ 3_392_515 ∷ 32_229 ∷ 32_003 ∷ 6_511 ∷ 0 ∷ [])
-    ∷ limits (at 1_000 0) ordinary (50_000_001 ∷ 1_000 ∷ 2_000_000 ∷ 1_938_580 ∷ 18_417 ∷ 18_288 ∷ 6_729 ∷ 0 ∷ [])
-    ∷ limits (at 1_001 0) ordinary (50_000_001 ∷ 1_001 ∷ 2_003_000 ∷ 1_941_488 ∷ 18_444 ∷ 18_315 ∷ 7_669 ∷ 0 ∷ [])
-    ∷ limits (at 2_000 0) (2_500 ∷ 500 ∷ 500 ∷ 2 ∷ 2 ∷ 20 ∷ []) (50_000_001 ∷ 2_000 ∷ 5_000_000 ∷ 4_846_450 ∷ 46_041 ∷ 45_719 ∷ 3_163 ∷ 1 ∷ [])
-    ∷ gives annexTables annexCar (5_000 ∷ 1_586 ∷ 500 ∷ 5 ∷ 5 ∷ 30 ∷ []) (figures (1 ∷ 2_904 ∷ 7_257_240 ∷ 7_076_034 ∷ 68_156 ∷ 66_793 ∷ 5_877 ∷ 1 ∷ []))
-    ∷ limits firstCar none (50_000_001 ∷ 1_500 ∷ 3_500_000 ∷ 3_392_515 ∷ 32_229 ∷ 32_003 ∷ 0 ∷ 1 ∷ [])
+    limits firstCar ordinary (50_000_001 ∷ 15_000 ∷ 3_500_000 ∷ 3_392_515 ∷ 32_229 ∷ 32_003 ∷ 6_511 ∷ 0 ∷ [])
+    ∷ limits (at 1_000 0) ordinary (50_000_001 ∷ 10_000 ∷ 2_000_000 ∷ 1_938_580 ∷ 18_417 ∷ 18_288 ∷ 6_729 ∷ 0 ∷ [])
+    ∷ limits (withDip 2 1_000 1_001 0 0 0) ordinary (50_000_001 ∷ 10_005 ∷ 2_001_500 ∷ 1_940_034 ∷ 18_430 ∷ 18_301 ∷ 7_672 ∷ 0 ∷ [])
+    ∷ limits (at 1_001 0) ordinary (50_000_001 ∷ 10_010 ∷ 2_003_000 ∷ 1_941_488 ∷ 18_444 ∷ 18_315 ∷ 7_669 ∷ 0 ∷ [])
+    ∷ limits (at 2_000 0) (2_500 ∷ 500 ∷ 500 ∷ 2 ∷ 2 ∷ 20 ∷ []) (50_000_001 ∷ 20_000 ∷ 5_000_000 ∷ 4_846_450 ∷ 46_041 ∷ 45_719 ∷ 3_163 ∷ 1 ∷ [])
+    ∷ gives annexTables annexCar (5_000 ∷ 1_586 ∷ 500 ∷ 5 ∷ 5 ∷ 30 ∷ []) (figures (1 ∷ 29_040 ∷ 7_257_240 ∷ 7_076_034 ∷ 68_156 ∷ 66_793 ∷ 5_877 ∷ 1 ∷ []))
+    ∷ limits firstCar none (50_000_001 ∷ 15_000 ∷ 3_500_000 ∷ 3_392_515 ∷ 32_229 ∷ 32_003 ∷ 0 ∷ 1 ∷ [])
     -- the smallest: of 1.1 the next whole number, of 11 and 6,501 these numbers themselves
-    ∷ limits firstCar (ofCapacity 1) (50_000_001 ∷ 1_500 ∷ 3_500_000 ∷ 3_392_515 ∷ 32_229 ∷ 32_003 ∷ 2 ∷ 1 ∷ [])
-    ∷ limits firstCar (ofCapacity 10) (50_000_001 ∷ 1_500 ∷ 3_500_000 ∷ 3_392_515 ∷ 32_229 ∷ 32_003 ∷ 11 ∷ 1 ∷ [])
-    ∷ limits firstCar (ofCapacity 5_909) (50_000_001 ∷ 1_500 ∷ 3_500_000 ∷ 3_392_515 ∷ 32_229 ∷ 32_003 ∷ 6_500 ∷ 1 ∷ [])
-    ∷ limits firstCar (ofCapacity 5_910) (50_000_001 ∷ 1_500 ∷ 3_500_000 ∷ 3_392_515 ∷ 32_229 ∷ 32_003 ∷ 6_501 ∷ 0 ∷ [])
+    ∷ limits firstCar (ofCapacity 1) (50_000_001 ∷ 15_000 ∷ 3_500_000 ∷ 3_392_515 ∷ 32_229 ∷ 32_003 ∷ 2 ∷ 1 ∷ [])
+    ∷ limits firstCar (ofCapacity 10) (50_000_001 ∷ 15_000 ∷ 3_500_000 ∷ 3_392_515 ∷ 32_229 ∷ 32_003 ∷ 11 ∷ 1 ∷ [])
+    ∷ limits firstCar (ofCapacity 5_909) (50_000_001 ∷ 15_000 ∷ 3_500_000 ∷ 3_392_515 ∷ 32_229 ∷ 32_003 ∷ 6_500 ∷ 1 ∷ [])
+    ∷ limits firstCar (ofCapacity 5_910) (50_000_001 ∷ 15_000 ∷ 3_500_000 ∷ 3_392_515 ∷ 32_229 ∷ 32_003 ∷ 6_501 ∷ 0 ∷ [])
     -- 99,999 kg and 100,000 kg
-    ∷ gives (wideTables 159_000) (at 2_049 0) (ofCapacity 5_909) (figures (50_000_001 ∷ 2_049 ∷ 10_859_700 ∷ 10_526_198 ∷ 99_999 ∷ 99_299 ∷ 6_500 ∷ 1 ∷ []))
-    ∷ gives (wideTables 158_000) (at 2_062 0) (ofCapacity 4_546) (figures (50_000_001 ∷ 2_062 ∷ 10_859_867 ∷ 10_526_360 ∷ 100_000 ∷ 99_300 ∷ 5_001 ∷ 0 ∷ []))
-    ∷ gives (wideTables 158_000) (at 2_062 0) (ofCapacity 4_545) (figures (50_000_001 ∷ 2_062 ∷ 10_859_867 ∷ 10_526_360 ∷ 100_000 ∷ 99_300 ∷ 5_000 ∷ 1 ∷ []))
+    ∷ gives (wideTables 159_000) (at 2_049 0) (ofCapacity 5_909) (figures (50_000_001 ∷ 20_490 ∷ 10_859_700 ∷ 10_526_198 ∷ 99_999 ∷ 99_299 ∷ 6_500 ∷ 1 ∷ []))
+    ∷ gives (wideTables 158_000) (at 2_062 0) (ofCapacity 4_546) (figures (50_000_001 ∷ 20_620 ∷ 10_859_867 ∷ 10_526_360 ∷ 100_000 ∷ 99_300 ∷ 5_001 ∷ 0 ∷ []))
+    ∷ gives (wideTables 158_000) (at 2_062 0) (ofCapacity 4_545) (figures (50_000_001 ∷ 20_620 ∷ 10_859_867 ∷ 10_526_360 ∷ 100_000 ∷ 99_300 ∷ 5_000 ∷ 1 ∷ []))
     -- 24: each error at its most, and one more
-    ∷ limits firstCar (10_000 ∷ 10_000 ∷ 10_000 ∷ 20 ∷ 20 ∷ 30 ∷ []) (50_000_001 ∷ 1_500 ∷ 3_500_000 ∷ 3_392_515 ∷ 32_229 ∷ 32_003 ∷ 19_803 ∷ 0 ∷ [])
+    ∷ limits firstCar (10_000 ∷ 10_000 ∷ 10_000 ∷ 20 ∷ 20 ∷ 30 ∷ []) (50_000_001 ∷ 15_000 ∷ 3_500_000 ∷ 3_392_515 ∷ 32_229 ∷ 32_003 ∷ 19_803 ∷ 0 ∷ [])
     ∷ refused 24 firstCar (10_001 ∷ 0 ∷ 0 ∷ 0 ∷ 0 ∷ 0 ∷ [])
     ∷ refused 24 firstCar (0 ∷ 10_001 ∷ 0 ∷ 0 ∷ 0 ∷ 0 ∷ [])
     ∷ refused 24 firstCar (0 ∷ 0 ∷ 10_001 ∷ 0 ∷ 0 ∷ 0 ∷ [])
@@ -164,13 +166,15 @@ card =
     ∷ refused 24 firstCar (0 ∷ 0 ∷ 0 ∷ 0 ∷ 21 ∷ 0 ∷ [])
     ∷ refused 24 firstCar (0 ∷ 0 ∷ 0 ∷ 0 ∷ 0 ∷ 101 ∷ [])
     -- 25: a level term of 10,000 passes, also where it is so by R alone, and 10,001 does not; V0 is 0, also without a level error
-    ∷ limits (at 1_000 0) (ofLevel 100) (50_000_001 ∷ 1_000 ∷ 2_000_000 ∷ 1_938_580 ∷ 18_417 ∷ 18_288 ∷ 11_000 ∷ 0 ∷ [])
+    ∷ limits (at 1_000 0) (ofLevel 100) (50_000_001 ∷ 10_000 ∷ 2_000_000 ∷ 1_938_580 ∷ 18_417 ∷ 18_288 ∷ 11_000 ∷ 0 ∷ [])
     ∷ refused 25 (at 999 0) (ofLevel 100)
-    ∷ gives bentTables (at 1_989 971) (ofLevel 99) (figures (50_000_001 ∷ 1_989 ∷ 2_969_900 ∷ 2_878_694 ∷ 27_348 ∷ 27_157 ∷ 11_000 ∷ 0 ∷ []))
+    ∷ refused 25 (withDip 2 999 1_000 0 0 0) (ofLevel 100)
+    ∷ gives bentTables (at 1_989 971) (ofLevel 99) (figures (50_000_001 ∷ 19_890 ∷ 2_969_900 ∷ 2_878_694 ∷ 27_348 ∷ 27_157 ∷ 11_000 ∷ 0 ∷ []))
     ∷ gives bentTables (at 1_299 971) (ofLevel 30) (refusal 25)
     ∷ gives flatTables (at 17 0) none (refusal 25)
+    ∷ gives flatTables (withDip 2 17 18 0 0 0) none (refusal 25)
     ∷ gives flatTables (at 19 18) none (refusal 25)
-    ∷ gives flatTables (at 18 0) none (figures (50_000_001 ∷ 18 ∷ 1 ∷ 1 ∷ 0 ∷ 0 ∷ 0 ∷ 1 ∷ []))
+    ∷ gives flatTables (at 18 0) none (figures (50_000_001 ∷ 180 ∷ 1 ∷ 1 ∷ 0 ∷ 0 ∷ 0 ∷ 1 ∷ []))
     -- two faults: those of the tables and of the car, then 24, then 25
     ∷ gives (badType ∷ []) firstCar (ofCapacity 10_001) (refusal 7)
     ∷ gives (badRow ∷ []) firstCar (ofCapacity 10_001) (refusal 8)

@@ -4,7 +4,7 @@ use Prim.Native.Nat.{ℕ, _+_, _≤_, _<_}
 use mathlib.Core.Path.{_≡_}
 use mathlib.Core.List.{List, _∷_, _++_}
 use lib.ListN.{getD}
-use Rattle.base.specs.Limits.{inUnits}
+use Rattle.base.specs.Limits.{inTenths}
 use Rattle.base.specs.Numbers.{oneIf}
 use Rattle.base.specs.Answer.{Answer, figures, refusal}
 use Rattle.table.specs.Table.{Row, Table}
@@ -22,8 +22,8 @@ pub record Around (rows : List Row) (level : ℕ) (g : Gap) : Type 0 where
   pub before : List Row
   pub after : List Row
   pub neighbours : rows ≡ before ++ (g .low ∷ g .high ∷ after)
-  pub passed : inUnits (g .low .level) < level
-  pub reached : level ≤ inUnits (g .high .level)
+  pub passed : inTenths (g .low .level) < level
+  pub reached : level ≤ inTenths (g .high .level)
 
 -- of the figures of a car with these errors: V0 stands third, gross fifth, the limit seventh, whether it is within eighth
 pub record FiguresRight (ts : List Table) (c : Car) (e : Errors) (values : List ℕ) : Type 0 where

@@ -1,4 +1,4 @@
--- The limits of document 01 that more than one rule names, each with its unit, and the unit of level.
+-- The limits of document 01 that more than one rule names, each with its unit, and the unit of a mean level.
 use Prim.Native.Nat.{ℕ, _*_}
 
 -- the largest number of a field, and so of a car
@@ -27,10 +27,10 @@ highestLevel = 3_600
 abbrev pub greatestCapacity : ℕ
 greatestCapacity = 200_000
 
--- how many units of a mean level make a millimetre; readings, rows and water levels are in whole millimetres
-abbrev pub levelUnits : ℕ
-levelUnits = 1
+-- how many tenths make a millimetre: a mean level and a stick level are in tenths of a mm, readings, rows and water levels in whole mm
+abbrev pub tenths : ℕ
+tenths = 10
 
--- a level in mm, in these units
-abbrev pub inUnits : ℕ → ℕ
-inUnits mm = levelUnits * mm
+-- a level in mm, in tenths of a mm
+abbrev pub inTenths : ℕ → ℕ
+inTenths mm = tenths * mm

@@ -12,10 +12,10 @@ pub use limits::GRADES;
 pub use limits::GREATEST_CAPACITY;
 pub use limits::HIGHEST_LEVEL;
 pub use limits::LARGEST;
-pub use limits::LEVEL_UNITS;
 pub use limits::MOST_CARS;
 pub use limits::MOST_ROWS;
 pub use limits::MOST_TABLES;
+pub use limits::TENTHS;
 
 // R(n / d): to the nearest whole number, a half going up; 0 where d is 0.
 pub fn round_half_up(n: u64, d: u64) -> u64

@@ -1,4 +1,4 @@
-// The limits that more than one rule names (specs/Limits.antt), each with its unit, and the unit of level.
+// The limits that more than one rule names (specs/Limits.antt), each with its unit, and the unit of a mean level.
 
 // The largest number of a field, and so of a car.
 pub const LARGEST: u32 = 99_999_999;
@@ -19,5 +19,5 @@ pub const HIGHEST_LEVEL: u32 = 3_600;
 // The greatest capacity of a table, in dm³.
 pub const GREATEST_CAPACITY: u32 = 200_000;
 
-// How many units of a mean level make a millimetre.
-pub const LEVEL_UNITS: u32 = 1;
+// How many tenths make a millimetre: a mean level and a stick level are in tenths of a mm, in 64 bits where they stand by themselves.
+pub const TENTHS: u64 = 10;

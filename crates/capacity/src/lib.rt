@@ -1,5 +1,5 @@
 // The capacity at a level, read off capacity tables, and V0: step 2 of document 01, with refusals 12, 16 and 17. Rows and water levels
-// are in mm, every other level is in units.
+// are in mm, every other level is in tenths of a mm.
 ghost use mathlib.Core.Path.{_≡_};
 ghost use Rattle.table.specs.Layout.{tablesOf};
 ghost use Rattle.table.specs.Inner.{Good};
@@ -9,7 +9,7 @@ use base::MOST_ROWS;
 use base::wide;
 use gauging::Around;
 use gauging::Volume;
-use interpolating::in_units;
+use interpolating::in_tenths;
 use interpolating::interpolate;
 use interpolating::least_mm;
 use interpolating::neighbours;
@@ -73,7 +73,7 @@ fn capacity_at(
     }
 }
 
-// V0, in 0.01 dm³, of oil between the water level (mm) and the mean level (units), on the table of a type; or the refusal: 12,
+// V0, in 0.01 dm³, of oil between the water level (mm) and the mean level (tenths of a mm), on the table of a type; or the refusal: 12,
 // 16 or 17.
 pub fn volume_on(
     d: Directory,
@@ -93,7 +93,7 @@ pub fn volume_on(
     if mean == 0 {
         return Volume::Refused(16);
     }
-    let bottom = in_units(water);
+    let bottom = in_tenths(water);
     if mean <= bottom {
         return Volume::Refused(17);
     }
@@ -111,7 +111,7 @@ pub fn checked_volume(
     levels: &[u32; PLACES],
     capacities: &[u32; PLACES],
     kind: u32,
-    mean: u32,
+    mean: u64,
     water: u32,
 ) -> Volume
     ensures { λ r. ⌜ volumeTold r ≡ volumeAnswer (tablesOf d (now (levels .entry)) (now (capacities .entry))) kind mean water ⌝ }
@@ -120,5 +120,5 @@ pub fn checked_volume(
     if refusal != 0 {
         return Volume::Refused(refusal);
     }
-    volume_on(d, levels, capacities, kind, mean as u64, water)
+    volume_on(d, levels, capacities, kind, mean, water)
 }

@@ -7,7 +7,7 @@ use native.Mathlib.Nat.{le-of-lt}
 use native.Mathlib.Omega.{arith}
 use lib.Dec.{eqb}
 use borrow.Author.Tests.{ltb-false, leb-false, eqb-false}
-use Rattle.base.specs.Limits.{inUnits}
+use Rattle.base.specs.Limits.{inTenths}
 use Rattle.base.specs.Answer.{Test, accepts, refuses, first}
 use Rattle.base.proofs.Choice.{neither}
 use Rattle.base.proofs.Answer.{not-applied, accepted-parts}
@@ -68,17 +68,17 @@ module _ (ts : List Table) (m : Measured) (h : Passed ts m) where
   pub known : unknown (m .kind) ts ≡ false
   known = not-applied 12 (earlyTests ts m) (h .early)
 
-  pub level-in : (0 < m .level) × (m .level ≤ inUnits (lastLevel (rows ts m)))
+  pub level-in : (0 < m .level) × (m .level ≤ inTenths (lastLevel (rows ts m)))
   level-in =
       let p = neither (eqb (m .level) 0) (above (rows ts m) (m .level)) (not-applied 16 (lateTests ts m) (h .late)) in
       let n = eqb-false (m .level) 0 (p .0) in
-      (omega arith, ltb-false (inUnits (lastLevel (rows ts m))) (m .level) (p .1))
+      (omega arith, ltb-false (inTenths (lastLevel (rows ts m))) (m .level) (p .1))
 
-  pub low : m .level ≤ inUnits (lastLevel (rows ts m))
+  pub low : m .level ≤ inTenths (lastLevel (rows ts m))
   low = level-in .1
 
-  pub above-water : inUnits (m .«water_level») < m .level
-  above-water = leb-false (m .level) (inUnits (m .«water_level»)) (not-applied 17 (lateTests ts m) (h .late))
+  pub above-water : inTenths (m .«water_level») < m .level
+  above-water = leb-false (m .level) (inTenths (m .«water_level»)) (not-applied 17 (lateTests ts m) (h .late))
 
   pub fields : FieldsInRange (m .temperature) (m .density .0) (m .water) (m .impurities)
   fields =

@@ -1,10 +1,9 @@
--- The rack card: the starred figures of document 01, and for each refusal of a car the cars just inside and just outside, in one table that one
--- statement covers. A car stands by the fourteen numbers of its C line.
+-- The rack card: the starred figures of document 01, with levels in tenths of a mm by request (g), and for each refusal of a car the cars just inside and
+-- just outside, in one table that one statement covers. A car stands by the fourteen numbers of its C line.
 use Prim.Native.Nat.{ℕ}
 use mathlib.Core.Path.{_≡_}
 use mathlib.Core.List.{List, [], _∷_, _++_}
 use lib.ListN.{take, drop}
-use Rattle.base.specs.Limits.{inUnits}
 use Rattle.base.specs.Answer.{Answer, figures, refusal}
 use Rattle.base.specs.Lists.{Each}
 use Rattle.dip.specs.Tape.{allowanceAnswer}
@@ -84,27 +83,33 @@ withOil grade t r w i = take 10 (withCodes 1 grade 1) ++ (t ∷ r ∷ w ∷ i �
 
 unfoldable pub card : List Figure
 card =
-    -- B, X, E at 60 °C and the density at 20 °C of the first car's oil; Vt with either stick; the capacity at 1 mm; the tape allowance
+    -- B, X, E at 60 °C and the density at 20 °C of the first car's oil; Vt with either stick; the capacity at 10 tenths; the tape
+    -- allowance at a metre, a tenth and a millimetre above
     gives (expansionAnswer 9_500) (figures (718_937 ∷ []))
     ∷ gives (figures (exponent 718_937 450 ∷ [])) (figures (331_894_951 ∷ []))
     ∷ gives (factorAnswer 9_500 600) (figures (9_673_552_332 ∷ []))
     ∷ gives (density20Answer 9_500) (figures (9_466 ∷ []))
     ∷ gives (figures (hotVolume 3_500_000 (stickCoefficient 1) 600 ∷ [])) (figures (3_507_000 ∷ []))
     ∷ gives (figures (hotVolume 3_500_000 (stickCoefficient 2) 600 ∷ [])) (figures (3_508_470 ∷ []))
-    ∷ gives (capacityAnswer cardTables 1 (inUnits 1)) (figures (2_000 ∷ []))
-    ∷ gives (allowanceAnswer (inUnits 1_000)) (figures (30 ∷ []))
-    ∷ gives (allowanceAnswer (inUnits 1_001)) (figures (45 ∷ []))
-    -- the first car; with an aluminium stick; the closest three of four readings, upper, lower, and the lower of two triples as close; a half going up; a full car
-    ∷ shows firstCar (50_000_001 ∷ 1_500 ∷ 3_500_000 ∷ 3_392_515 ∷ 32_229 ∷ 32_003 ∷ [])
-    ∷ shows (withCodes 1 3 2) (50_000_001 ∷ 1_500 ∷ 3_500_000 ∷ 3_393_937 ∷ 32_242 ∷ 32_016 ∷ [])
-    ∷ shows (withDip 4 1_500 1_504 1_501 1_502 0) (50_000_001 ∷ 1_501 ∷ 3_503_000 ∷ 3_395_423 ∷ 32_257 ∷ 32_031 ∷ [])
-    ∷ shows (withDip 4 1_500 1_503 1_503 1_502 0) (50_000_001 ∷ 1_503 ∷ 3_509_000 ∷ 3_401_238 ∷ 32_312 ∷ 32_086 ∷ [])
-    ∷ shows (withDip 4 1_500 1_503 1_501 1_502 0) (50_000_001 ∷ 1_501 ∷ 3_503_000 ∷ 3_395_423 ∷ 32_257 ∷ 32_031 ∷ [])
-    ∷ shows (withDip 2 1_500 1_501 0 0 0) (50_000_001 ∷ 1_501 ∷ 3_503_000 ∷ 3_395_423 ∷ 32_257 ∷ 32_031 ∷ [])
-    ∷ shows (withDip 2 3_000 3_000 0 0 0) (50_000_001 ∷ 3_000 ∷ 7_000_000 ∷ 6_785_030 ∷ 64_458 ∷ 64_007 ∷ [])
+    ∷ gives (capacityAnswer cardTables 1 10) (figures (2_000 ∷ []))
+    ∷ gives (allowanceAnswer 10_000) (figures (30 ∷ []))
+    ∷ gives (allowanceAnswer 10_001) (figures (45 ∷ []))
+    ∷ gives (allowanceAnswer 10_010) (figures (45 ∷ []))
+    -- the first car; with an aluminium stick
+    ∷ shows firstCar (50_000_001 ∷ 15_000 ∷ 3_500_000 ∷ 3_392_515 ∷ 32_229 ∷ 32_003 ∷ [])
+    ∷ shows (withCodes 1 3 2) (50_000_001 ∷ 15_000 ∷ 3_500_000 ∷ 3_393_937 ∷ 32_242 ∷ 32_016 ∷ [])
+    -- three of four readings: the lower, (1,500 + 1,501 + 1,502) / 3 = 1,501; the upper, (1,502 + 1,503 + 1,503) / 3 = 1,502.67; of two triples as close
+    -- the lower, (1,500 + 1,501 + 1,502) / 3 = 1,501
+    ∷ shows (withDip 4 1_500 1_504 1_501 1_502 0) (50_000_001 ∷ 15_010 ∷ 3_503_000 ∷ 3_395_423 ∷ 32_257 ∷ 32_031 ∷ [])
+    ∷ shows (withDip 4 1_500 1_503 1_503 1_502 0) (50_000_001 ∷ 15_027 ∷ 3_508_100 ∷ 3_400_366 ∷ 32_303 ∷ 32_077 ∷ [])
+    ∷ shows (withDip 4 1_500 1_503 1_501 1_502 0) (50_000_001 ∷ 15_010 ∷ 3_503_000 ∷ 3_395_423 ∷ 32_257 ∷ 32_031 ∷ [])
+    -- two readings, (1,500 + 1,501) / 2 = 1,500.5, and over water up to half a mm below; a full car
+    ∷ shows (withDip 2 1_500 1_501 0 0 0) (50_000_001 ∷ 15_005 ∷ 3_501_500 ∷ 3_393_969 ∷ 32_243 ∷ 32_017 ∷ [])
+    ∷ shows (withDip 2 1_500 1_501 0 0 1_500) (50_000_001 ∷ 15_005 ∷ 1_500 ∷ 1_454 ∷ 14 ∷ 14 ∷ [])
+    ∷ shows (withDip 2 3_000 3_000 0 0 0) (50_000_001 ∷ 30_000 ∷ 7_000_000 ∷ 6_785_030 ∷ 64_458 ∷ 64_007 ∷ [])
     -- water under the oil: net of the gross as shown, and the light and the dense end of 19
-    ∷ shows (50_000_001 ∷ 1 ∷ 3 ∷ 1 ∷ 2 ∷ 1_500 ∷ 1_500 ∷ 0 ∷ 0 ∷ 500 ∷ 900 ∷ 9_000 ∷ 50 ∷ 20 ∷ []) (50_000_001 ∷ 1_500 ∷ 2_500_000 ∷ 2_361_466 ∷ 21_253 ∷ 21_104 ∷ [])
-    ∷ shows (50_000_001 ∷ 1 ∷ 3 ∷ 1 ∷ 2 ∷ 1_500 ∷ 1_500 ∷ 0 ∷ 0 ∷ 500 ∷ 400 ∷ 9_900 ∷ 50 ∷ 20 ∷ []) (50_000_001 ∷ 1_500 ∷ 2_500_000 ∷ 2_459_631 ∷ 24_350 ∷ 24_180 ∷ [])
+    ∷ shows (50_000_001 ∷ 1 ∷ 3 ∷ 1 ∷ 2 ∷ 1_500 ∷ 1_500 ∷ 0 ∷ 0 ∷ 500 ∷ 900 ∷ 9_000 ∷ 50 ∷ 20 ∷ []) (50_000_001 ∷ 15_000 ∷ 2_500_000 ∷ 2_361_466 ∷ 21_253 ∷ 21_104 ∷ [])
+    ∷ shows (50_000_001 ∷ 1 ∷ 3 ∷ 1 ∷ 2 ∷ 1_500 ∷ 1_500 ∷ 0 ∷ 0 ∷ 500 ∷ 400 ∷ 9_900 ∷ 50 ∷ 20 ∷ []) (50_000_001 ∷ 15_000 ∷ 2_500_000 ∷ 2_459_631 ∷ 24_350 ∷ 24_180 ∷ [])
     -- 10
     ∷ refused 10 (withNumber 0)
     ∷ passes (withNumber 1)
@@ -146,14 +151,22 @@ card =
     ∷ passes (withDip 4 1_500 1_501 0 99_999_999 0)
     ∷ passes (withDip 4 1_501 1_500 1_504 1_508 0)
     ∷ refused 15 (withDip 2 1_500 1_504 0 0 0)
-    -- 16
+    -- 16: 0, and the least levels above it: (0 + 0 + 1) / 3, (0 + 1) / 2 and (0 + 1 + 1) / 3, though the tape has no allowance for them
     ∷ refused 16 (withDip 2 0 0 0 0 0)
-    ∷ passes (withDip 2 0 1 0 0 0)
+    ∷ shows (withDip 4 0 2 0 1 0) (50_000_001 ∷ 3 ∷ 600 ∷ 581 ∷ 6 ∷ 6 ∷ [])
+    ∷ shows (withDip 2 0 1 0 0 0) (50_000_001 ∷ 5 ∷ 1_000 ∷ 969 ∷ 9 ∷ 9 ∷ [])
+    ∷ shows (withDip 4 0 2 1 1 0) (50_000_001 ∷ 7 ∷ 1_400 ∷ 1_357 ∷ 13 ∷ 13 ∷ [])
+    -- the last level and above it: (3,000 + 3,001) / 2 = 3,000.5 and (3,000 + 3,000 + 3,001) / 3 = 3,000.33
     ∷ passes (withDip 2 3_000 3_000 0 0 0)
+    ∷ refused 16 (withDip 2 3_000 3_001 0 0 0)
+    ∷ refused 16 (withDip 4 3_000 3_002 3_000 3_001 0)
     ∷ refused 16 (withDip 2 3_001 3_001 0 0 0)
-    -- 17
+    -- 17: water in whole mm below a level in tenths; a water level of which ten times wants more than 32 bits
     ∷ passes (withDip 2 1_500 1_500 0 0 1_499)
     ∷ refused 17 (withDip 2 1_500 1_500 0 0 1_500)
+    ∷ passes (withDip 2 1_500 1_501 0 0 1_500)
+    ∷ refused 17 (withDip 2 1_500 1_501 0 0 1_501)
+    ∷ refused 17 (withDip 2 1_500 1_500 0 0 429_496_730)
     -- 18, by grade
     ∷ refused 18 (withOil 1 199 9_000 30 10)
     ∷ passes (withOil 1 200 9_000 30 10)
@@ -205,7 +218,7 @@ card =
     ∷ refused 14 (withDip 2 1_500 1_502 1 0 0)
     ∷ refused 14 (withDip 3 0 0 0 0 0)
     ∷ refused 15 (withDip 2 3_001 3_003 0 0 0)
-    -- 9,003, 9,005 and the two unused 0s: by step 1 their mean level is 3,001
+    -- 9,003, 9,005 and the two unused 0s: by step 1 their mean level is 30,010
     ∷ refused 15 (withDip 2 9_003 9_005 0 0 0)
     ∷ refused 12 (scatteredDip (withCodes 2 3 1))
     ∷ refused 13 (scatteredDip (withCodes 1 5 1))

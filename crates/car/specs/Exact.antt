@@ -1,8 +1,9 @@
--- The exact gross and net of what is measured of a car, in kg: steps 2 to 8 with nothing rounded, from the mean level and the reported fields.
+-- The exact gross and net of what is measured of a car, in kg: steps 2 to 8 with nothing rounded, from the mean level in tenths of a mm and the
+-- reported fields.
 use Prim.Native.Nat.{ℕ, _+_}
 use mathlib.Core.Path.{_≡_}
 use mathlib.Core.List.{List}
-use Rattle.base.specs.Limits.{inUnits}
+use Rattle.base.specs.Limits.{inTenths}
 use Rattle.base.specs.Fraction.{Frac, _+ᶠ_, _≤ᶠ_}
 use Rattle.table.specs.Table.{Table, rowsOf}
 use Rattle.gauging.specs.Capacity.{capacityAt}
@@ -32,8 +33,8 @@ distance net = netDistance
 
 -- Nothing is cut off at 0 where a difference is taken: V0 is the whole difference of its capacities, rounded and exact, and so are steps 3 to 8.
 pub record Uncut (ts : List Table) (m : Measured) : Type 0 where
-  pub volume : capacity.v0 (rowsOf (m .kind) ts) (m .level) (m .«water_level») + capacityAt (rowsOf (m .kind) ts) (inUnits (m .«water_level»))
+  pub volume : capacity.v0 (rowsOf (m .kind) ts) (m .level) (m .«water_level») + capacityAt (rowsOf (m .kind) ts) (inTenths (m .«water_level»))
       ≡ capacityAt (rowsOf (m .kind) ts) (m .level)
-  pub exact : (capacityAtˣ (rowsOf (m .kind) ts) (m .level) ≤ᶠ volumeˣ ts m +ᶠ capacityAtˣ (rowsOf (m .kind) ts) (inUnits (m .«water_level»)))
-      × (volumeˣ ts m +ᶠ capacityAtˣ (rowsOf (m .kind) ts) (inUnits (m .«water_level»)) ≤ᶠ capacityAtˣ (rowsOf (m .kind) ts) (m .level))
+  pub exact : (capacityAtˣ (rowsOf (m .kind) ts) (m .level) ≤ᶠ volumeˣ ts m +ᶠ capacityAtˣ (rowsOf (m .kind) ts) (inTenths (m .«water_level»)))
+      × (volumeˣ ts m +ᶠ capacityAtˣ (rowsOf (m .kind) ts) (inTenths (m .«water_level»)) ≤ᶠ capacityAtˣ (rowsOf (m .kind) ts) (m .level))
   pub steps : NothingCut (m .temperature) (m .density .0) (m .water) (m .impurities)

@@ -10,7 +10,8 @@ use Rattle.car.specs.Measured.{Mass, gross, net}
 use Rattle.car.specs.Car.{carOf, measured}
 use Rattle.car.specs.Exact.{massˣ}
 
--- a table with rows 7 mm apart; 1,003 mm lie between them, so that V0 is 13,993,300 / 7 units of 0.01 dm³ over 5 mm of water
+-- a table with rows 7 mm apart; 1,003.3 mm, which is the mean of 1,003, 1,003 and 1,004 to a tenth, lie between them, so that V0 is 13,999,630 / 7 units of
+-- 0.01 dm³ over 5 mm of water
 abbrev exactTables : List Table
 exactTables =
     record {
@@ -26,7 +27,7 @@ exactTables =
 
 -- with a stick
 abbrev exactCar : ℕ → Measured
-exactCar stick = measured (carOf (1 ∷ 1 ∷ 3 ∷ stick ∷ 2 ∷ 1_003 ∷ 1_003 ∷ 0 ∷ 0 ∷ 5 ∷ 613 ∷ 9_541 ∷ 33 ∷ 7 ∷ []))
+exactCar stick = measured (carOf (1 ∷ 1 ∷ 3 ∷ stick ∷ 4 ∷ 1_003 ∷ 1_005 ∷ 1_003 ∷ 1_004 ∷ 5 ∷ 613 ∷ 9_541 ∷ 33 ∷ 7 ∷ []))
 
 -- a mass with that stick to that power, in whole 10⁻¹² kg, what is left being cut off
 pub record Weight : Type 0 where
@@ -40,14 +41,14 @@ weight s k p n = record { stick = s; mass = k; power = p; trillionths = n }
 
 unfoldable pub weights : List Weight
 weights =
-    weight 1 gross seven 18_473_741_369_661_390
-    ∷ weight 1 gross eight 18_473_741_369_661_390
-    ∷ weight 1 net seven 18_399_846_404_182_744
-    ∷ weight 1 net eight 18_399_846_404_182_745
-    ∷ weight 2 gross seven 18_481_735_998_697_384
-    ∷ weight 2 gross eight 18_481_735_998_697_385
-    ∷ weight 2 net seven 18_407_809_054_702_594
-    ∷ weight 2 net eight 18_407_809_054_702_595
+    weight 1 gross seven 18_482_098_139_177_512
+    ∷ weight 1 gross eight 18_482_098_139_177_513
+    ∷ weight 1 net seven 18_408_169_746_620_802
+    ∷ weight 1 net eight 18_408_169_746_620_803
+    ∷ weight 2 gross seven 18_490_096_384_658_648
+    ∷ weight 2 gross eight 18_490_096_384_658_649
+    ∷ weight 2 net seven 18_416_135_999_120_013
+    ∷ weight 2 net eight 18_416_135_999_120_014
     ∷ []
 
 pub record Lies (w : Weight) : Type 0 where

@@ -28,7 +28,7 @@ lateTests ts m =
 unfoldable pub measuredTests : List Table → List Test → Measured → List Test
 measuredTests ts readings m = earlyTests ts m ++ (readings ++ lateTests ts m)
 
--- The figures: V0 and V15 in 0.01 dm³, gross and net in kg.
+-- The figures: the mean level in tenths of a mm, V0 and V15 in 0.01 dm³, gross and net in kg.
 
 unfoldable pub v0 : List Table → Measured → ℕ
 v0 ts m = capacity.v0 (rows ts m) (m .level) (m .«water_level»)

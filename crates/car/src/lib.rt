@@ -17,7 +17,7 @@ pub struct Car {
     pub impurities: u32,
 }
 
-// What is measured of a car, of which its figures are worked out: the mean level, in units of it, in place of the readings.
+// What is measured of a car, of which its figures are worked out: the mean level, in tenths of a mm, in place of the readings.
 pub struct Measured {
     pub kind: u32,
     pub grade: u32,
@@ -30,7 +30,7 @@ pub struct Measured {
     pub impurities: u32,
 }
 
-// The six figures: car number, mean level, V0 and V15 in 0.01 dm³, gross and net in kg.
+// The six figures: car number, mean level in tenths of a mm, V0 and V15 in 0.01 dm³, gross and net in kg.
 pub struct Figures {
     pub number: u32,
     pub level: u32,

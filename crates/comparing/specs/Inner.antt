@@ -4,7 +4,7 @@ use mathlib.Core.Path.{_≡_}
 use mathlib.Core.Bool.{true, false}
 use mathlib.Core.List.{List, [], _∷_}
 use Rattle.base.specs.Answer.{refuseIf, first, answer}
-use Rattle.base.specs.Limits.{highestLevel, levelUnits}
+use Rattle.base.specs.Limits.{highestLevel, tenths}
 use Rattle.dip.specs.Tape.{listed, offTape}
 use Rattle.comparison.specs.declared.StickCheck.{StickCheck}
 use Rattle.comparison.specs.Answers.{sumOf, readingBad, comparisonAt, fourFigures, checkTold}
@@ -29,7 +29,7 @@ pub record TapeInRange (sum m : ℕ) : Type 0 where
 -- and a stick level that is not above the highest
 pub record BothInRange (stick sum m : ℕ) : Type 0 where
   pub tape : TapeInRange sum m
-  pub most : stick ≤ levelUnits * highestLevel
+  pub most : stick ≤ tenths * highestLevel
 
 -- the comparison where the tape takes the stick level, else 29
 abbrev pub OnTape : ℕ → ℕ → ℕ → StickCheck → Type 0

@@ -1,4 +1,4 @@
-// The stick compared with the tape, request (f) of document 02. A stick level is in units of a mean level, readings are in mm.
+// The stick compared with the tape, request (f) of document 02. A stick level is in tenths of a mm, readings are in mm.
 ghost use mathlib.Core.Path.{_≡_};
 ghost use Prim.Native.Nat.{_≤_};
 ghost use Rattle.comparison.specs.Answers.{mostReadings, given, comparisonAt, checkAnswer, checkTold};
@@ -7,7 +7,7 @@ ghost use Rattle.comparison.specs.Exchange.{ExchangeRight};
 ghost use Rattle.comparison.specs.Card.{ChecksRight};
 ghost use Rattle.comparing.specs.Inner.{SumRight, TapeInRange, BothInRange, OnTape};
 use base::HIGHEST_LEVEL;
-use base::LEVEL_UNITS;
+use base::TENTHS;
 use comparison::Comparison;
 use comparison::Difference;
 use comparison::StickCheck;
@@ -52,14 +52,14 @@ fn sum_of(readings: [u32; TAPE_READINGS], count: u32) -> TapeSum
 }
 
 // The stick level beside m readings of the tape with their sum, and the tape allowance for it.
-fn compare(stick: u32, sum: u32, m: u32, allowance: u32) -> Comparison
+fn compare(stick: u64, sum: u32, m: u32, allowance: u32) -> Comparison
     requires { ⌜ BothInRange stick sum m ⌝ }
     ensures { λ r. ⌜ r ≡ comparisonAt stick sum m allowance ⌝ }
 {
     // stick level and mean, each times m, in parts of which `parts` make a mm
-    let by_stick = stick * m;
-    let by_tape = LEVEL_UNITS * sum;
-    let parts = (LEVEL_UNITS * m) as u64;
+    let by_stick = stick as u32 * m;
+    let by_tape = TENTHS as u32 * sum;
+    let parts = TENTHS * m as u64;
     let negative = by_stick < by_tape;
     let apart = MILLIMETRE * base::difference(by_stick, by_tape) as u64;
     let passes = apart <= MOST_APART * parts;
@@ -73,7 +73,7 @@ fn compare(stick: u32, sum: u32, m: u32, allowance: u32) -> Comparison
 }
 
 // The same with the allowance, or 29 for a stick level that the tape does not take.
-fn compare_on_tape(stick: u32, sum: u32, m: u32) -> StickCheck
+fn compare_on_tape(stick: u64, sum: u32, m: u32) -> StickCheck
     requires { ⌜ TapeInRange sum m ⌝ }
     ensures { λ r. ⌜ OnTape stick sum m r ⌝ }
 {
@@ -88,9 +88,9 @@ fn compare_on_tape(stick: u32, sum: u32, m: u32) -> StickCheck
     }
 }
 
-// The stick level beside the first `count` readings; 28 where these are too few or too many, else 29 where one of them, or the stick
-// level, is outside 1 to 3,600 mm.
-pub fn stick_against_tape(stick: u32, count: u32, readings: [u32; TAPE_READINGS]) -> StickCheck
+// The stick level beside the first `count` readings; 28 where these are too few or too many, else 29 where one of them is outside
+// 1 to 3,600 mm or the stick level outside 10 to 36,000 tenths.
+pub fn stick_against_tape(stick: u64, count: u32, readings: [u32; TAPE_READINGS]) -> StickCheck
     ensures { λ r. ⌜ (checkTold r ≡ checkAnswer stick count readings) × ToldOnly stick count readings r × ExchangeRight stick count readings r × ChecksRight ⌝ }
 {
     if count < FEWEST_READINGS {

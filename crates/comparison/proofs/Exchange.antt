@@ -7,7 +7,7 @@ use mathlib.Core.Logic.{inl, inr}
 use native.Mathlib.Omega.{arith}
 use lib.ListN.{length, getD}
 use lib.Seq.{length-take-le, getD-take}
-use Rattle.base.specs.Limits.{inUnits}
+use Rattle.base.specs.Limits.{inTenths}
 use Rattle.base.specs.Lists.{Each}
 use Rattle.base.specs.Numbers.{difference}
 use Rattle.base.specs.Total.{total}
@@ -45,30 +45,30 @@ module _ (count stood read : ℕ) (places : List ℕ) (full : length places ≡ 
   room : count ≤ length places
   room = omega (arith, full, c .most)
 
-  sum-given : inUnits (sumOf (given count places)) ≡ inUnits read * count
+  sum-given : inTenths (sumOf (given count places)) ≡ inTenths read * count
   sum-given = omega (arith, alike-sum read (given count places) alike, ap (λ (n : ℕ). read * n) (length-take-le count places room))
 
   pub at-given : (i : ℕ) → i < count → getD places i 0 ≡ read
   at-given i h = sym (getD-take count places i 0 h) ∙ alike-at read (given count places) alike i (rw (length-take-le count places room) h)
 
   -- what is shown, over the two levels
-  pub by-levels : (x : Comparison) → ComparisonRight (inUnits stood) count places x
-      → (x .difference ≡ signed (inUnits stood * count) (inUnits read * count) (parts count))
-      × (x .passes ≡ close (inUnits stood * count) (inUnits read * count) (parts count))
+  pub by-levels : (x : Comparison) → ComparisonRight (inTenths stood) count places x
+      → (x .difference ≡ signed (inTenths stood * count) (inTenths read * count) (parts count))
+      × (x .passes ≡ close (inTenths stood * count) (inTenths read * count) (parts count))
   by-levels x f =
       let p : 0 < count = omega (arith, c .least) in
       let sum = sumOf (given count places) in
-      let a = inUnits stood * count in
+      let a = inTenths stood * count in
       let d = parts count in
-      let r = signed-only (inUnits stood) sum count p (c .most) (x .difference .negative) (x .difference .size) (f .difference) in (
-        same-difference (x .difference) (signed a (inUnits sum) d) (r .0) (r .1) ∙ ap (λ (n : ℕ). signed a n d) sum-given,
-        pass-only (inUnits stood) sum count p (c .most) (x .difference .size) (x .passes) (f .passes) ∙ ap (λ (n : ℕ). close a n d) sum-given,
+      let r = signed-only (inTenths stood) sum count p (c .most) (x .difference .negative) (x .difference .size) (f .difference) in (
+        same-difference (x .difference) (signed a (inTenths sum) d) (r .0) (r .1) ∙ ap (λ (n : ℕ). signed a n d) sum-given,
+        pass-only (inTenths stood) sum count p (c .most) (x .difference .size) (x .passes) (f .passes) ∙ ap (λ (n : ℕ). close a n d) sum-given,
       )
 
 -- the levels are in range after the exchange where they were before it
 levels-exchanged : (count stood read : ℕ) (places others : List ℕ) → length places ≡ mostReadings → length others ≡ mostReadings
     → AllAt read count places → AllAt stood count others
-    → CountInRange count → LevelsInRange (inUnits stood) count places → LevelsInRange (inUnits read) count others
+    → CountInRange count → LevelsInRange (inTenths stood) count places → LevelsInRange (inTenths read) count others
 levels-exchanged count stood read places others full full′ alike alike′ c h = record {
   readings = λ i k. rw (at-given count read stood others full′ alike′ c i k) (omega (arith, h .level .least, h .level .most));
   level =
@@ -79,17 +79,17 @@ levels-exchanged count stood read places others full full′ alike alike′ c h 
 -- Before the exchange and after it.
 module _ (count stood read : ℕ) (places others : List ℕ) (full : length places ≡ mostReadings) (full′ : length others ≡ mostReadings)
     (alike : AllAt read count places) (alike′ : AllAt stood count others) where
-  there : CountInRange count → LevelsInRange (inUnits stood) count places → LevelsInRange (inUnits read) count others
+  there : CountInRange count → LevelsInRange (inTenths stood) count places → LevelsInRange (inTenths read) count others
   there = levels-exchanged count stood read places others full full′ alike alike′
 
-  back : CountInRange count → LevelsInRange (inUnits read) count others → LevelsInRange (inUnits stood) count places
+  back : CountInRange count → LevelsInRange (inTenths read) count others → LevelsInRange (inTenths stood) count places
   back = levels-exchanged count read stood others places full′ full alike′ alike
 
-  figures-turned : (x y : Comparison) → ComparisonRight (inUnits stood) count places x → ComparisonRight (inUnits read) count others y → ComparisonTurned read x y
+  figures-turned : (x y : Comparison) → ComparisonRight (inTenths stood) count places x → ComparisonRight (inTenths read) count others y → ComparisonTurned read x y
   figures-turned x y f g =
       let c = f .counted in
-      let a = inUnits stood * count in
-      let b = inUnits read * count in
+      let a = inTenths stood * count in
+      let b = inTenths read * count in
       let d = parts count in
       let h = by-levels count stood read places full alike c x f in
       let k = by-levels count read stood others full′ alike′ c y g in
@@ -99,7 +99,7 @@ module _ (count stood read : ℕ) (places others : List ℕ) (full : length plac
         allowance = g .allowance;
       }
 
-  turned-told : (a b : StickCheck) → ToldRight (inUnits stood) count places a → ToldRight (inUnits read) count others b → Turned read a b
+  turned-told : (a b : StickCheck) → ToldRight (inTenths stood) count places a → ToldRight (inTenths read) count others b → Turned read a b
   turned-told (Compared x) (Compared y) f g = figures-turned x y f g
   turned-told (Compared x) (Refused k) f (inl g) = g .1 (f .counted)
   turned-told (Compared x) (Refused k) f (inr g) = g .2 (there (g .1) (f .levels))
@@ -114,7 +114,7 @@ exchange-right : (stick count : ℕ) (places : List ℕ) (a : StickCheck) → le
 exchange-right stick count places a full w = λ stood read others b e alike alike′ full′ v.
     turned-told count stood read places others full full′ alike alike′ a b
     (subst (λ (n : ℕ). ToldRight n count places a) e (told-right stick count places full a w))
-    (told-right (inUnits read) count others full′ b v)
+    (told-right (inTenths read) count others full′ b v)
 
 -- all that is said of an answer
 pub check-right : (stick count : ℕ) (places : List ℕ) (a : StickCheck) → length places ≡ mostReadings → checkTold a ≡ checkAnswer stick count places

@@ -6,7 +6,7 @@ use mathlib.Core.List.{List, [], _∷_}
 use native.Mathlib.Omega.{arith}
 use lib.ListN.{length, getD}
 use lib.Seq.{length-take-le, getD-take}
-use Rattle.base.specs.Limits.{highestLevel, levelUnits}
+use Rattle.base.specs.Limits.{highestLevel, tenths}
 use Rattle.base.specs.Numbers.{outside}
 use Rattle.base.proofs.Choice.{neither}
 use Rattle.base.proofs.Numbers.{inside, inside-back}
@@ -48,7 +48,7 @@ module _ (stick count : ℕ) (places : List ℕ) (room : count ≤ length places
       let h = neither (readingBad (given count places)) (offTape stick) e in
       record {
         readings = λ i k. subst (Between 1 highestLevel) (getD-take count places i 0 k) (readings-in (given count places) (h .0) i (rw (length-take-le count places room) k));
-        level = between levelUnits (levelUnits * highestLevel) stick (h .1);
+        level = between tenths (tenths * highestLevel) stick (h .1);
       }
 
   pub levels-in-back : LevelsInRange stick count places → levelBad stick (given count places) ≡ false

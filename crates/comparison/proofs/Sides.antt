@@ -6,7 +6,7 @@ use native.Mathlib.Nat.{mul-le-mul-right, suc-pred-eq-of-pos}
 use native.Mathlib.Omega.{arith}
 use Rattle.base.specs.Rounding.{rounded}
 use Rattle.base.specs.Fraction.{Frac, whole, _-ᶠ_, _*ᶠ_, _/ᶠ_}
-use Rattle.base.specs.Limits.{inUnits}
+use Rattle.base.specs.Limits.{inTenths}
 use Rattle.base.proofs.Choice.{below}
 use Rattle.base.proofs.Rounding.{round-high, round-low}
 use Rattle.comparison.specs.Difference.{parts}
@@ -27,7 +27,7 @@ nearest-only p q = omega (arith, nearest-most p q, nearest-most q p)
 -- The two sides, of m readings.
 
 module _ (stick sum m : ℕ) (p : 0 < m) where
-  pub above-num : aboveMean stick sum m .num ≡ stick * m - inUnits sum
+  pub above-num : aboveMean stick sum m .num ≡ stick * m - inTenths sum
   unfolding whole _-ᶠ_ _/ᶠ_
   above-num = rw (suc-pred-eq-of-pos p) (omega arith)
 
@@ -35,7 +35,7 @@ module _ (stick sum m : ℕ) (p : 0 < m) where
   unfolding whole _-ᶠ_ _/ᶠ_
   above-den = rw (suc-pred-eq-of-pos p) (omega arith)
 
-  pub below-num : belowMean stick sum m .num ≡ inUnits sum - stick * m
+  pub below-num : belowMean stick sum m .num ≡ inTenths sum - stick * m
   unfolding whole _-ᶠ_ _/ᶠ_
   below-num = rw (suc-pred-eq-of-pos p) (omega arith)
 

@@ -9,7 +9,7 @@ use borrow.Author.Tests.{ltb-true, ltb-false, leb-true, le-leb}
 use lib.Dec.{ltb}
 use Rattle.base.specs.Rounding.{rounded}
 use Rattle.base.specs.Fraction.{whole, _*ᶠ_}
-use Rattle.base.specs.Limits.{inUnits}
+use Rattle.base.specs.Limits.{inTenths}
 use Rattle.base.specs.Numbers.{difference}
 use Rattle.base.proofs.Choice.{below}
 use Rattle.base.proofs.Numbers.{difference-sum}
@@ -50,7 +50,7 @@ module _ (stick sum m : ℕ) (p : 0 < m) (room : m ≤ mostReadings) where
   a = stick * m
 
   abbrev b : ℕ
-  b = inUnits sum
+  b = inTenths sum
 
   abbrev size : ℕ
   size = rounded (100 * difference a b) (parts m)

@@ -36,7 +36,7 @@ countBad count = outside fewestReadings mostReadings count
 abbrev pub readingBad : List ℕ → Bool
 readingBad readings = any (outside 1 highestLevel) readings
 
--- 29: a given reading is outside 1 to 3,600 mm, or the stick level is
+-- 29: a given reading is outside 1 to 3,600 mm, or the stick level outside 10 to 36,000 tenths
 abbrev pub levelBad : ℕ → List ℕ → Bool
 levelBad stick readings = readingBad readings || offTape stick
 

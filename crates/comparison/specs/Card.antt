@@ -4,11 +4,10 @@ use mathlib.Core.Path.{_≡_}
 use mathlib.Core.List.{List, [], _∷_, _++_}
 use lib.ListN.{replicate}
 use Rattle.base.specs.Answer.{Answer, figures, refusal}
-use Rattle.base.specs.Limits.{inUnits}
 use Rattle.base.specs.Lists.{Each}
 use Rattle.comparison.specs.Answers.{checkAnswer}
 
--- levels and readings in mm
+-- a stick level in tenths of a mm, readings in mm
 pub record CheckCase : Type 0 where
   pub stick : ℕ
   pub count : ℕ
@@ -42,42 +41,52 @@ tooFarBelow size allowance = figures (1 ∷ size ∷ 0 ∷ allowance ∷ [])
 
 unfoldable pub checkCard : List CheckCase
 checkCard =
-    -- a half goes away from zero: 0.125 mm
-    beside 1_500 14 1_500 2 1_501 (below 13 45)
-    ∷ beside 1_500 14 1_500 2 1_499 (above 13 45)
-    -- a twelfth and a thirteenth of a mm
-    ∷ beside 1_500 11 1_500 1 1_501 (below 8 45)
-    ∷ beside 1_500 12 1_500 1 1_499 (above 8 45)
+    -- a half goes away from zero: 0.125, 0.025 and 0.075 mm
+    beside 15_000 14 1_500 2 1_501 (below 13 45)
+    ∷ beside 15_000 14 1_500 2 1_499 (above 13 45)
+    ∷ beside 15_004 10 1_500 6 1_501 (above 3 45)
+    ∷ beside 15_003 10 1_500 6 1_501 (below 8 45)
+    -- a twelfth and a thirteenth of a mm; the least difference, 1/190 mm
+    ∷ beside 15_000 11 1_500 1 1_501 (below 8 45)
+    ∷ beside 15_000 12 1_500 1 1_499 (above 8 45)
+    ∷ beside 15_009 2 1_500 17 1_501 (above 1 45)
+    ∷ beside 15_001 17 1_500 2 1_501 (below 1 45)
     -- 2 mm passes, and 0 has no sign
-    ∷ beside 1_500 10 1_498 0 0 (above 200 45)
-    ∷ beside 1_500 10 1_502 0 0 (below 200 45)
-    ∷ beside 1_500 20 1_500 0 0 (above 0 45)
-    -- 2.1 mm and, with twenty readings, 2.05 mm do not
-    ∷ beside 1_500 9 1_498 1 1_497 (tooFarAbove 210 45)
-    ∷ beside 1_500 9 1_502 1 1_503 (tooFarBelow 210 45)
-    ∷ beside 1_500 19 1_498 1 1_497 (tooFarAbove 205 45)
-    ∷ beside 1_500 19 1_502 1 1_503 (tooFarBelow 205 45)
-    -- the farthest apart; the allowance on both sides of a metre
-    ∷ beside 1 10 3_600 0 0 (tooFarBelow 359_900 30)
-    ∷ beside 3_600 10 1 0 0 (tooFarAbove 359_900 75)
-    ∷ beside 1_000 10 1_001 0 0 (below 100 30)
-    ∷ beside 1_001 10 1_000 0 0 (above 100 45)
+    ∷ beside 15_000 10 1_498 0 0 (above 200 45)
+    ∷ beside 15_000 10 1_502 0 0 (below 200 45)
+    ∷ beside 15_020 20 1_500 0 0 (above 200 45)
+    ∷ beside 14_980 20 1_500 0 0 (below 200 45)
+    ∷ beside 15_000 20 1_500 0 0 (above 0 45)
+    ∷ beside 15_005 10 1_500 10 1_501 (above 0 45)
+    -- 2 1/190 mm, shown as 2.01, 2.05 and 2.1 mm do not
+    ∷ beside 15_009 2 1_498 17 1_499 (tooFarAbove 201 45)
+    ∷ beside 15_001 17 1_502 2 1_503 (tooFarBelow 201 45)
+    ∷ beside 15_000 19 1_498 1 1_497 (tooFarAbove 205 45)
+    ∷ beside 15_000 19 1_502 1 1_503 (tooFarBelow 205 45)
+    ∷ beside 15_021 20 1_500 0 0 (tooFarAbove 210 45)
+    ∷ beside 14_979 20 1_500 0 0 (tooFarBelow 210 45)
+    -- the farthest apart; the allowance on both sides of a metre, which a tenth begins
+    ∷ beside 10 10 3_600 0 0 (tooFarBelow 359_900 30)
+    ∷ beside 36_000 10 1 0 0 (tooFarAbove 359_900 75)
+    ∷ beside 10_000 10 1_001 0 0 (below 100 30)
+    ∷ beside 10_001 10 1_000 0 0 (above 10 45)
     -- 28, also where a level is out of its range
-    ∷ among 1_500 9 (tape 20 1_500 0 0 0) (refusal 28)
-    ∷ among 1_500 21 (tape 20 1_500 0 0 0) (refusal 28)
+    ∷ among 15_000 9 (tape 20 1_500 0 0 0) (refusal 28)
+    ∷ among 15_000 21 (tape 20 1_500 0 0 0) (refusal 28)
     ∷ among 0 0 (tape 0 0 0 0 0) (refusal 28)
-    ∷ among 3_601 9 (tape 20 3_601 0 0 0) (refusal 28)
-    -- 29: the stick level, the first reading and the last one given, below the range and above it
-    ∷ beside 0 10 1_500 0 0 (refusal 29)
-    ∷ beside 3_601 10 1_500 0 0 (refusal 29)
-    ∷ among 1_500 10 (tape 1 0 19 1_500 0) (refusal 29)
-    ∷ among 1_500 10 (tape 1 3_601 19 1_500 0) (refusal 29)
-    ∷ beside 1_500 9 1_500 1 0 (refusal 29)
-    ∷ beside 1_500 19 1_500 1 3_601 (refusal 29)
+    ∷ among 36_001 9 (tape 20 3_601 0 0 0) (refusal 28)
+    -- 29: the stick level, the first reading and the last one given, below the range and above it; a stick level of which 32 bits would be 15,000
+    ∷ beside 9 10 1_500 0 0 (refusal 29)
+    ∷ beside 36_001 10 1_500 0 0 (refusal 29)
+    ∷ beside 4_294_982_296 10 1_500 0 0 (refusal 29)
+    ∷ among 15_000 10 (tape 1 0 19 1_500 0) (refusal 29)
+    ∷ among 15_000 10 (tape 1 3_601 19 1_500 0) (refusal 29)
+    ∷ beside 15_000 9 1_500 1 0 (refusal 29)
+    ∷ beside 15_000 19 1_500 1 3_601 (refusal 29)
     -- places that are not given are not looked at
-    ∷ among 1_500 10 (tape 10 1_498 0 0 4_294_967_295) (above 200 45)
-    ∷ among 1_500 19 (tape 19 1_500 1 0 0) (above 0 45)
+    ∷ among 15_000 10 (tape 10 1_498 0 0 4_294_967_295) (above 200 45)
+    ∷ among 15_000 19 (tape 19 1_500 1 0 0) (above 0 45)
     ∷ []
 
 pub record ChecksRight : Type 0 where
-  pub answers : Each (λ (c : CheckCase). checkAnswer (inUnits (c .stick)) (c .count) (c .places) ≡ c .card) checkCard
+  pub answers : Each (λ (c : CheckCase). checkAnswer (c .stick) (c .count) (c .places) ≡ c .card) checkCard

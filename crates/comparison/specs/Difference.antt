@@ -4,14 +4,14 @@ use mathlib.Core.Bool.{Bool}
 use lib.Dec.{ltb, leb}
 use Rattle.base.specs.Rounding.{rounded}
 use Rattle.base.specs.Numbers.{difference}
-use Rattle.base.specs.Limits.{levelUnits, inUnits}
+use Rattle.base.specs.Limits.{tenths, inTenths}
 use Rattle.comparison.specs.declared.Difference.{Difference}
 
--- The stick level is in units of a mean level, the m readings and their sum in mm. Stick level and mean are compared after each was taken m times, so
--- that nothing is divided: then levelUnits × m parts make a mm.
+-- The stick level is in tenths of a mm, the m readings and their sum in mm. Stick level and mean are compared after each was taken m times, so that
+-- nothing is divided: then 10 × m parts make a mm.
 
 abbrev pub parts : ℕ → ℕ
-parts m = levelUnits * m
+parts m = tenths * m
 
 -- a less b, both in parts of which d make a mm: in 0.01 mm by its sign and its size, a half of the size going up and so away from zero
 unfoldable pub signed : ℕ → ℕ → ℕ → Difference
@@ -23,8 +23,8 @@ close a b d = leb (difference a b) (2 * d)
 
 -- the stick level less the mean of m readings
 abbrev pub differenceOf : ℕ → ℕ → ℕ → Difference
-differenceOf stick sum m = signed (stick * m) (inUnits sum) (parts m)
+differenceOf stick sum m = signed (stick * m) (inTenths sum) (parts m)
 
 -- the unrounded difference is at most 2 mm either way
 abbrev pub passesFor : ℕ → ℕ → ℕ → Bool
-passesFor stick sum m = close (stick * m) (inUnits sum) (parts m)
+passesFor stick sum m = close (stick * m) (inTenths sum) (parts m)

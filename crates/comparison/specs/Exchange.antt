@@ -5,7 +5,7 @@ use mathlib.Core.Bool.{false, cond, not}
 use mathlib.Core.List.{List}
 use lib.Dec.{eqb}
 use lib.ListN.{length}
-use Rattle.base.specs.Limits.{inUnits}
+use Rattle.base.specs.Limits.{inTenths}
 use Rattle.base.specs.Lists.{Each}
 use Rattle.dip.specs.Tape.{listed}
 use Rattle.comparison.specs.declared.Difference.{Difference}
@@ -22,7 +22,7 @@ turned d = record { negative = cond (eqb (d .size) 0) false (not (d .negative));
 pub record ComparisonTurned (level : ℕ) (x y : Comparison) : Type 0 where
   pub difference : y .difference ≡ turned (x .difference)
   pub passes : y .passes ≡ x .passes
-  pub allowance : y .allowance ≡ listed (inUnits level)
+  pub allowance : y .allowance ≡ listed (inTenths level)
 
 abbrev pub Turned : ℕ → StickCheck → StickCheck → Type 0
 Turned level (Compared x) (Compared y) = ComparisonTurned level x y
@@ -39,9 +39,9 @@ AllAt level count places = Each (λ (mm : ℕ). mm ≡ level) (given count place
 abbrev pub ExchangeRight : ℕ → ℕ → List ℕ → StickCheck → Type 0
 ExchangeRight stick count places a =
     (stood read : ℕ) (others : List ℕ) (b : StickCheck)
-    → stick ≡ inUnits stood
+    → stick ≡ inTenths stood
     → AllAt read count places
     → AllAt stood count others
     → length others ≡ mostReadings
-    → checkTold b ≡ checkAnswer (inUnits read) count others
+    → checkTold b ≡ checkAnswer (inTenths read) count others
     → Turned read a b

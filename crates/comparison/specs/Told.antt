@@ -6,7 +6,7 @@ use mathlib.Core.List.{List}
 use mathlib.Core.Logic.{_⊎_}
 use lib.ListN.{getD}
 use Rattle.base.specs.Fraction.{Frac, whole, _-ᶠ_, _*ᶠ_, _/ᶠ_, _≤ᶠ_}
-use Rattle.base.specs.Limits.{highestLevel, levelUnits}
+use Rattle.base.specs.Limits.{highestLevel, tenths}
 use Rattle.dip.specs.Tape.{listed}
 use Rattle.comparison.specs.declared.Comparison.{Comparison}
 use Rattle.comparison.specs.declared.StickCheck.{StickCheck}
@@ -16,7 +16,7 @@ use Rattle.comparison.specs.Answers.{fewestReadings, mostReadings, given
 -- Exact, in mm: the stick level, the mean of m readings by their sum, and by how much the stick lies above the mean and below it, of which one is 0.
 
 abbrev pub stickLevel : ℕ → Frac
-stickLevel stick = whole stick /ᶠ levelUnits
+stickLevel stick = whole stick /ᶠ tenths
 
 abbrev pub tapeMean : ℕ → ℕ → Frac
 tapeMean sum m = whole sum /ᶠ m
@@ -66,7 +66,7 @@ CountInRange count = Between fewestReadings mostReadings count
 -- every given reading and the stick level are in the range of 29
 pub record LevelsInRange (stick count : ℕ) (places : List ℕ) : Type 0 where
   pub readings : (i : ℕ) → i < count → Between 1 highestLevel (getD places i 0)
-  pub level : Between levelUnits (levelUnits * highestLevel) stick
+  pub level : Between tenths (tenths * highestLevel) stick
 
 -- a comparison is handed back
 pub record ComparisonRight (stick count : ℕ) (places : List ℕ) (x : Comparison) : Type 0 where

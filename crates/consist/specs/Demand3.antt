@@ -32,8 +32,8 @@ abbrev pub massIn : Mass → Answer → ℕ
 massIn k (figures values) = getD values (placeOf k) 0
 massIn k (refusal number) = 0
 
--- 1. The distance. An accepted car's gross is no further than 0.55 kg, nor its net further than 1.1 kg, from the exact value, for both powers; and no
--- difference on the way to the exact value is cut off at 0.
+-- 1. The distance. An accepted car's gross is no further than 0.55 kg, nor its net further than 1.1 kg, from the exact value, which starts from the mean
+-- level in tenths of a millimetre, for both powers; and no difference on the way to the exact value is cut off at 0.
 
 pub record Close (ts : List Table) (m : Measured) (a : Answer) : Type 0 where
   pub near : verdictIn a ≡ accepts → (k : Mass) (p : Power) → Within 100 (distance k) (massIn k a) (massˣ k p ts m)
@@ -89,7 +89,7 @@ pub record Continues (t : Train) (i : Item) (a : Answer) (next : Train) : Type 0
       → answersFrom emptyTrain (items ++ (i ∷ [])) ≡ answersFrom emptyTrain items ++ (a ∷ [])
   pub reconciled : (items : List Item) → Reconciled (items ++ (i ∷ []))
 
--- 3. The filling order.
+-- 3. The filling order, by the mean level in tenths of a millimetre.
 
 -- an answer that a car of which m was measured gets, alone or entered in any train
 pub data Answered (ts : List Table) : Measured → Answer → Type 0 where

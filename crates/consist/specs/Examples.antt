@@ -3,7 +3,7 @@ use Prim.Native.Nat.{ℕ, zero, suc, _+_}
 use mathlib.Core.Path.{_≡_}
 use mathlib.Core.List.{List, [], _∷_, _++_}
 use lib.ListN.{replicate}
-use Rattle.base.specs.Limits.{mostCars, inUnits}
+use Rattle.base.specs.Limits.{mostCars}
 use Rattle.base.specs.Answer.{accepts, refuses, Answer, refusal}
 use Rattle.base.specs.Lists.{Each}
 use Rattle.table.specs.Table.{Table}
@@ -68,19 +68,19 @@ pub record GradesExample : Type 0 where
   pub sums : trainFrom emptyTrain mixed .sums
       ≡ sumsFrom (totalsFrom 5 135_361 134_819) (totalsFrom 1 32_229 32_100) (totalsFrom 1 14_733 14_674) (totalsFrom 1 46_041 45_857) (totalsFrom 2 42_358 42_188)
 
--- 2. Two cars that the filling order compares, of two and of four readings, at different levels, the second on another list of tables.
+-- 2. Two cars that the filling order compares, of two and of four readings, at levels less than a millimetre apart, the second on another list of tables.
 
 abbrev otherTables : List Table
 otherTables = record { kind = 7; rows = record { level = 0; capacity = 0 } ∷ record { level = 9; capacity = 90 } ∷ [] } ∷ cardTables
 
 abbrev fourReadings : Car
-fourReadings = carOf (7 ∷ 1 ∷ 3 ∷ 1 ∷ 4 ∷ 1_500 ∷ 1_504 ∷ 1_501 ∷ 1_502 ∷ 0 ∷ 600 ∷ 9_500 ∷ 50 ∷ 20 ∷ [])
+fourReadings = carOf (7 ∷ 1 ∷ 3 ∷ 1 ∷ 4 ∷ 1_500 ∷ 1_502 ∷ 1_500 ∷ 1_501 ∷ 0 ∷ 600 ∷ 9_500 ∷ 50 ∷ 20 ∷ [])
 
 pub record OrderExample : Type 0 where
   pub comparable : Comparable cardTables otherTables (measured (exampleCar 1 1 600)) (measured fourReadings)
       (aloneAnswer cardTables (exampleCar 1 1 600)) (aloneAnswer otherTables fourReadings)
-  pub lower : measured (exampleCar 1 1 600) .level ≡ inUnits 1_500
-  pub higher : measured fourReadings .level ≡ inUnits 1_501
+  pub lower : measured (exampleCar 1 1 600) .level ≡ 15_000
+  pub higher : measured fourReadings .level ≡ 15_003
 
 -- 3. Two faults of a car entered in a train that is handed in: the first in the list is given.
 

@@ -1,4 +1,5 @@
 pub mod Sorting
 pub mod Redip
+pub mod Tenths
 pub mod AgainstCard
 pub mod Formula

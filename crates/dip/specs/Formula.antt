@@ -2,7 +2,7 @@
 use Prim.Native.Nat.{ℕ, _+_, _-_, _*_, _/_, _≤_}
 use mathlib.Core.Path.{_≡_}
 use mathlib.Core.List.{[], _∷_}
-use Rattle.base.specs.Limits.{highestLevel, levelUnits}
+use Rattle.base.specs.Limits.{highestLevel, tenths}
 use Rattle.base.specs.Answer.{refuseIf, first, Answer, answer}
 use Rattle.dip.specs.Tape.{metre, listed, offTape, allowanceAnswer}
 
@@ -23,9 +23,9 @@ byFormula level = firstMetre + furtherMetre * (metresBegun level - 1)
 unfoldable pub formulaAnswer : ℕ → Answer
 formulaAnswer level = answer (first (refuseIf 16 (offTape level) ∷ [])) (byFormula level ∷ [])
 
--- the answer a to a level is the formula's; at every level of 1 to 3,600 mm the formula gives the list's number, and at every level whatever, 16 included,
--- the list's answer
+-- the answer a to a level is the formula's; at every level of 10 to 36,000 tenths the formula gives the list's number, and at every level whatever, 16
+-- included, the list's answer
 pub record FormulaRight (level : ℕ) (a : Answer) : Type 0 where
   pub answered : a ≡ formulaAnswer level
-  pub number : (l : ℕ) → levelUnits ≤ l → l ≤ levelUnits * highestLevel → byFormula l ≡ listed l
+  pub number : (l : ℕ) → tenths ≤ l → l ≤ tenths * highestLevel → byFormula l ≡ listed l
   pub same : (l : ℕ) → formulaAnswer l ≡ allowanceAnswer l

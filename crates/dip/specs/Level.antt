@@ -1,4 +1,4 @@
--- Step 1 of document 01, the mean level of two or four readings, with refusals 14, 15, 23 and 16. Readings are in mm, a mean level in units of it.
+-- Step 1 of document 01, the mean level of two or four readings, with refusals 14, 15, 23 and 16. Readings are in mm, a mean level in tenths of a mm.
 use Prim.Native.Nat.{ℕ, _+_, _-_, _*_}
 use mathlib.Core.Bool.{Bool, cond, not, _&&_, _||_}
 use mathlib.Core.List.{List, [], _∷_, _++_}
@@ -6,10 +6,10 @@ use lib.Dec.{ltb, leb, eqb}
 use lib.ListN.{getD}
 use Rattle.base.specs.Rounding.{rounded}
 use Rattle.base.specs.Numbers.{difference}
-use Rattle.base.specs.Limits.{levelUnits}
+use Rattle.base.specs.Limits.{tenths}
 use Rattle.base.specs.Answer.{Test, refuseIf, first, Answer, figures, refusal, answer}
 use Rattle.dip.specs.declared.MeanLevel.{MeanLevel}
-use Rattle.dip.specs.declared.MeanLevel.the-variants.{Millimetres, Refused}
+use Rattle.dip.specs.declared.MeanLevel.the-variants.{Tenths, Refused}
 
 -- a number put in its place among numbers in rising order
 abbrev pub inserted : ℕ → List ℕ → List ℕ
@@ -21,9 +21,9 @@ abbrev pub sorted : List ℕ → List ℕ
 sorted [] = []
 sorted (x ∷ xs) = inserted x (sorted xs)
 
--- R of the mean of n readings, by their sum
+-- R of ten times the mean of n readings, by their sum
 abbrev pub meanOf : ℕ → ℕ → ℕ
-meanOf sum n = rounded (levelUnits * sum) n
+meanOf sum n = rounded (tenths * sum) n
 
 -- the three closest of a, b, c, d, which stand in rising order; the lower three where both triples are as close
 abbrev pub closest : ℕ → ℕ → ℕ → ℕ → List ℕ
@@ -33,9 +33,12 @@ closest a b c d = cond (leb (c - a) (d - b)) (a ∷ b ∷ c ∷ []) (b ∷ c ∷
 abbrev pub closestOf : List ℕ → List ℕ
 closestOf s = closest (getD s 0 0) (getD s 1 0) (getD s 2 0) (getD s 3 0)
 
--- R of the mean of three readings
+-- the sum of three readings, and the same of them
+abbrev pub sumOfThree : List ℕ → ℕ
+sumOfThree t = getD t 0 0 + getD t 1 0 + getD t 2 0
+
 abbrev pub meanOfThree : List ℕ → ℕ
-meanOfThree t = meanOf (getD t 0 0 + getD t 1 0 + getD t 2 0) 3
+meanOfThree t = meanOf (sumOfThree t) 3
 
 -- two readings differ by more than 1 mm
 abbrev pub apart : ℕ → ℕ → Bool
@@ -75,5 +78,5 @@ meanLevelAnswer n x = answer (first (readingsTests n x ++ (refuseIf 16 (eqb (mea
 
 -- what the code's answer says
 abbrev pub meanLevelTold : MeanLevel → Answer
-meanLevelTold (Millimetres level) = figures (level ∷ [])
+meanLevelTold (Tenths level) = figures (level ∷ [])
 meanLevelTold (Refused n) = refusal n

@@ -1,4 +1,5 @@
 pub mod Level
 pub mod Redip
+pub mod Tenths
 pub mod Tape
 pub mod Formula

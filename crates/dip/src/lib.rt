@@ -1,9 +1,9 @@
 // What a dip tells: the mean level of two or four readings, when they are refused, and the tape allowance. It has
-// definitions and proofs, and no code. All levels are in mm.
+// definitions and proofs, and no code. Readings are in mm, a mean level is in tenths of a mm.
 
-// A mean level in mm, or the number of a refusal.
+// A mean level in tenths of a mm, or the number of a refusal.
 pub enum MeanLevel {
-    Millimetres(u32),
+    Tenths(u64),
     Refused(u32),
 }
 

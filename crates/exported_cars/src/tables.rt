@@ -29,7 +29,7 @@ pub extern "C" fn rack_check_tables(
     BAD_LENGTH
 }
 
-// V0, in 0.01 dm³, between a water level and a mean level, in mm, on the table of a type.
+// V0, in 0.01 dm³, between a water level, in mm, and a mean level, in tenths of a mm, on the table of a type.
 #[no_mangle]
 pub extern "C" fn rack_checked_volume(
     count: u32,
@@ -38,7 +38,7 @@ pub extern "C" fn rack_checked_volume(
     levels: &[u32],
     capacities: &[u32],
     kind: u32,
-    mean: u32,
+    mean: u64,
     water: u32,
     volume: &mut u32,
 ) -> u32

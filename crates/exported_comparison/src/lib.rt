@@ -40,10 +40,10 @@ fn hand_over(answer: StickCheck, figures: &mut [u32]) -> u32
     }
 }
 
-// The stick level beside the first `count` of twenty readings.
+// The stick level, in tenths of a mm, beside the first `count` of twenty readings in mm.
 #[no_mangle]
 pub extern "C" fn rack_stick_against_tape(
-    stick: u32,
+    stick: u64,
     count: u32,
     readings: &[u32],
     figures: &mut [u32],

@@ -13,16 +13,16 @@ use heating::Expansion;
 use heating::Factor;
 use marshalling::BAD_LENGTH;
 
-// The mean level, in mm, of so many of the four readings.
+// The mean level, in tenths of a mm, of so many of the four readings in mm.
 #[no_mangle]
-pub extern "C" fn rack_mean_level(count: u32, readings: &[u32], level: &mut u32) -> u32
+pub extern "C" fn rack_mean_level(count: u32, readings: &[u32], level: &mut u64) -> u32
     ensures { λ r. ⌜ Handed figureLeft (sized (lengthIs 4 (now (readings .entry))) (meanLevelAnswer count (now (readings .entry)))) r (now (level .entry)) (now (level .exit)) ⌝ }
 {
     if readings.len() != 4 {
         return BAD_LENGTH;
     }
     match level::mean_level(count, marshalling::four(readings)) {
-        MeanLevel::Millimetres(figure) => {
+        MeanLevel::Tenths(figure) => {
             *level = figure;
             0
         }
@@ -30,9 +30,9 @@ pub extern "C" fn rack_mean_level(count: u32, readings: &[u32], level: &mut u32)
     }
 }
 
-// The tape allowance at a level in mm, in 0.01 mm.
+// The tape allowance at a level in tenths of a mm, in 0.01 mm.
 #[no_mangle]
-pub extern "C" fn rack_tape_allowance(level: u32, allowance: &mut u32) -> u32
+pub extern "C" fn rack_tape_allowance(level: u64, allowance: &mut u32) -> u32
     ensures { λ r. ⌜ Handed figureLeft (allowanceAnswer level) r (now (allowance .entry)) (now (allowance .exit)) ⌝ }
 {
     match tape::tape_allowance(level) {

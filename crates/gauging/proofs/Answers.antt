@@ -8,7 +8,7 @@ use lib.Dec.{eqb}
 use lib.ListN.{getD}
 use borrow.Author.Tests.{ltb-false, leb-false, eqb-false, le-ltb, le-leb, lt-leb, ne-eqb}
 use Rattle.base.specs.Answer.{refuseIf, Verdict, accepts, refuses, first, firstNumber, Answer, figures, refusal, answer}
-use Rattle.base.specs.Limits.{inUnits, highestLevel, greatestCapacity}
+use Rattle.base.specs.Limits.{inTenths, highestLevel, greatestCapacity}
 use Rattle.base.proofs.Choice.{never, neither}
 use Rattle.base.proofs.Answer.{not-applied, refused-append, accepted-append, answer-figures, answer-refusal}
 use Rattle.table.specs.Table.{Table, rowOf, tablesTests, tablesVerdict, unknown, rowsOf, lastLevel}
@@ -54,7 +54,7 @@ module _ (ts : List Table) (kind level : ℕ) where
 
   pub record Reached (v : ℕ) : Type 0 where
     pub known : unknown kind ts ≡ false
-    pub low : level ≤ inUnits (lastLevel (rowsOf kind ts))
+    pub low : level ≤ inTenths (lastLevel (rowsOf kind ts))
     pub value : v ≡ capacityAt (rowsOf kind ts) level
 
   pub reached : {r : Volume} {v : ℕ} → volumeTold r ≡ capacityAnswer ts kind level → r ≡ Hundredths v → Reached v
@@ -62,14 +62,14 @@ module _ (ts : List Table) (kind level : ℕ) where
       let p = answer-figures (first (reachTests ts kind level)) (sym (ap volumeTold h) ∙ e) in
       record {
         known = not-applied 12 (reachTests ts kind level) (p .0);
-        low = ltb-false (inUnits (lastLevel (rowsOf kind ts))) level (not-applied 16 (reachTests ts kind level) (p .0));
+        low = ltb-false (inTenths (lastLevel (rowsOf kind ts))) level (not-applied 16 (reachTests ts kind level) (p .0));
         value = let z = p .1 in cc;
       }
 
   -- a known table reaches every level up to its last
-  module _ (u : unknown kind ts ≡ false) (h : level ≤ inUnits (lastLevel (rowsOf kind ts))) where
+  module _ (u : unknown kind ts ≡ false) (h : level ≤ inTenths (lastLevel (rowsOf kind ts))) where
     reaches : (values : List ℕ) → answer (first (reachTests ts kind level)) values ≡ figures values
-    reaches values = rw (u, le-ltb (inUnits (lastLevel (rowsOf kind ts))) level h)
+    reaches values = rw (u, le-ltb (inTenths (lastLevel (rowsOf kind ts))) level h)
 
     pub not-refused : {r : Volume} {n : ℕ} → volumeTold r ≡ capacityAnswer ts kind level → r ≡ Refused n → ⊥
     not-refused e z = let same = sym (ap volumeTold z) ∙ e ∙ reaches (capacityAt (rowsOf kind ts) level ∷ []) in never (cc)
@@ -98,8 +98,8 @@ module _ (ts : List Table) (kind mean water : ℕ) where
   pub record Accepted : Type 0 where
     pub known : unknown kind ts ≡ false
     pub positive : 0 < mean
-    pub low : mean ≤ inUnits (lastLevel (rowsOf kind ts))
-    pub above-water : inUnits water < mean
+    pub low : mean ≤ inTenths (lastLevel (rowsOf kind ts))
+    pub above-water : inTenths water < mean
 
   accepted : first (volumeTests ts kind mean water) ≡ accepts → Accepted
   accepted e =
@@ -108,8 +108,8 @@ module _ (ts : List Table) (kind mean water : ℕ) where
       record {
         known = not-applied 12 (volumeTests ts kind mean water) e;
         positive = omega arith;
-        low = ltb-false (inUnits (lastLevel (rowsOf kind ts))) mean (by16 .1);
-        above-water = leb-false mean (inUnits water) (not-applied 17 (volumeTests ts kind mean water) e);
+        low = ltb-false (inTenths (lastLevel (rowsOf kind ts))) mean (by16 .1);
+        above-water = leb-false mean (inTenths water) (not-applied 17 (volumeTests ts kind mean water) e);
       }
 
   pub volume-found : Accepted → volumeOn ts kind mean water ≡ figures (v0 (rowsOf kind ts) mean water ∷ [])
@@ -118,14 +118,14 @@ module _ (ts : List Table) (kind mean water : ℕ) where
       rw (
         b .known,
         ne-eqb mean 0 (λ e. omega (arith, b .positive)),
-        le-ltb (inUnits (lastLevel (rowsOf kind ts))) mean (b .low),
-        lt-leb mean (inUnits water) (b .above-water),
+        le-ltb (inTenths (lastLevel (rowsOf kind ts))) mean (b .low),
+        lt-leb mean (inTenths water) (b .above-water),
       )
 
-  pub water-refused : unknown kind ts ≡ false → (mean ≡ 0 → ⊥) → mean ≤ inUnits (lastLevel (rowsOf kind ts)) → mean ≤ inUnits water
+  pub water-refused : unknown kind ts ≡ false → (mean ≡ 0 → ⊥) → mean ≤ inTenths (lastLevel (rowsOf kind ts)) → mean ≤ inTenths water
       → volumeOn ts kind mean water ≡ refusal 17
   unfolding volumeOn
-  water-refused u n h k = rw (u, ne-eqb mean 0 n, le-ltb (inUnits (lastLevel (rowsOf kind ts))) mean h, le-leb mean (inUnits water) k)
+  water-refused u n h k = rw (u, ne-eqb mean 0 n, le-ltb (inTenths (lastLevel (rowsOf kind ts))) mean h, le-leb mean (inTenths water) k)
 
   -- the answer's two cases
   pub volume-figures : {r : Volume} {v : ℕ} → volumeTold r ≡ volumeOn ts kind mean water → r ≡ Hundredths v → Accepted × (v ≡ v0 (rowsOf kind ts) mean water)
@@ -139,7 +139,7 @@ module _ (ts : List Table) (kind mean water : ℕ) where
   volume-refused e h = answer-refusal (first (volumeTests ts kind mean water)) (v0 (rowsOf kind ts) mean water ∷ []) (sym (ap volumeTold h) ∙ e)
 
   -- on tables that are not refused: a mean level with a V0 is at most 3,600 mm, and V0 at most 200,000 dm³
-  pub mean-most : tablesVerdict ts ≡ accepts → {r : Volume} {v : ℕ} → volumeTold r ≡ volumeOn ts kind mean water → r ≡ Hundredths v → mean ≤ inUnits highestLevel
+  pub mean-most : tablesVerdict ts ≡ accepts → {r : Volume} {v : ℕ} → volumeTold r ≡ volumeOn ts kind mean water → r ≡ Hundredths v → mean ≤ inTenths highestLevel
   mean-most e t h = let p = volume-figures t h in omega (arith, p .0 .low, tables-last-most kind ts e (p .0 .known))
 
   pub volume-most : tablesVerdict ts ≡ accepts → {r : Volume} {v : ℕ} → volumeTold r ≡ volumeOn ts kind mean water → r ≡ Hundredths v → v ≤ 100 * greatestCapacity

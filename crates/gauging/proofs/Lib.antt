@@ -1,4 +1,4 @@
+pub mod AgainstCard
 pub mod Capacity
 pub mod Search
 pub mod Answers
-pub mod AgainstCard

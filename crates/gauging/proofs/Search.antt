@@ -8,7 +8,7 @@ use native.Mathlib.Omega.{arith}
 use lib.ListN.{getD}
 use borrow.Author.Tests.{le-ltb, lt-ltb, le-leb, lt-leb, eq-eqb, ne-eqb}
 use Rattle.base.specs.Answer.{refuseIf, accepts, first, Answer, figures, refusal, answer}
-use Rattle.base.specs.Limits.{inUnits}
+use Rattle.base.specs.Limits.{inTenths}
 use Rattle.base.proofs.Choice.{below}
 use Rattle.table.specs.Table.{Row, Table, laterTests, lastLevel}
 use Rattle.table.specs.Layout.{rowsFrom}
@@ -23,16 +23,16 @@ abbrev pub foundAfter : Row → List Row → ℕ → Answer
 foundAfter low rows level = answer (first (refuseIf 16 (above (low ∷ rows) level) ∷ [])) (gapNumbers (gapAfter low rows level))
 
 module _ (low : Row) (level : ℕ) where
-  pub none-reaches : inUnits (low .level) < level → foundAfter low [] level ≡ refusal 16
-  none-reaches h = rw (lt-ltb (inUnits (low .level)) level h)
+  pub none-reaches : inTenths (low .level) < level → foundAfter low [] level ≡ refusal 16
+  none-reaches h = rw (lt-ltb (inTenths (low .level)) level h)
 
   module _ (high : Row) (rows : List Row) where
-    pub row-passed : inUnits (high .level) < level → foundAfter low (high ∷ rows) level ≡ foundAfter high rows level
-    row-passed h = rw (lt-leb level (inUnits (high .level)) h)
+    pub row-passed : inTenths (high .level) < level → foundAfter low (high ∷ rows) level ≡ foundAfter high rows level
+    row-passed h = rw (lt-leb level (inTenths (high .level)) h)
 
-    pub row-reaches : level ≤ inUnits (high .level) → RisingFrom high rows
+    pub row-reaches : level ≤ inTenths (high .level) → RisingFrom high rows
         → foundAfter low (high ∷ rows) level ≡ figures (gapNumbers (record { low = low; high = high }))
-    row-reaches h r = rw (le-leb level (inUnits (high .level)) h, le-ltb (inUnits (lastLevel (high ∷ rows))) level (omega (arith, last-least high rows r)))
+    row-reaches h r = rw (le-leb level (inTenths (high .level)) h, le-ltb (inTenths (lastLevel (high ∷ rows))) level (omega (arith, last-least high rows r)))
 
 module _ (t : Table) (ts : List Table) (kind level : ℕ) where
   pub table-chosen : (row : Row) (rows : List Row) → t .kind ≡ kind → t .rows ≡ row ∷ rows
@@ -53,7 +53,7 @@ module _ (levels capacities : List ℕ) (last level : ℕ) where
     pub good : first (laterTests (rowAt levels capacities to) (after to)) ≡ accepts
     pub same : foundAfter (rowAt levels capacities at) (after at) level ≡ foundAfter (rowAt levels capacities to) (after to) level
 
-  pub rows-skipped : (n at to : ℕ) → to ≡ at + n → to ≤ last → (at < to → inUnits (getD levels to 0) < level)
+  pub rows-skipped : (n at to : ℕ) → to ≡ at + n → to ≤ last → (at < to → inTenths (getD levels to 0) < level)
       → first (laterTests (rowAt levels capacities at) (after at)) ≡ accepts → Skipped at to
   rows-skipped zero at to e h f g =
       let back : at ≡ to = omega arith in

@@ -1,10 +1,10 @@
 -- The capacity at a level, and the volume of oil between two levels: step 2 of document 01, with refusals 12, 16 and 17.
--- A row and a water level are in mm; every other level is in units, of which `inUnits` gives those of a level in mm.
+-- A row and a water level are in mm; every other level is in tenths of a mm, of which `inTenths` gives those of a level in mm.
 use Prim.Native.Nat.{ℕ, _+_, _-_, _*_}
 use mathlib.Core.Bool.{Bool, cond, _||_}
 use mathlib.Core.List.{List, [], _∷_, _++_}
 use lib.Dec.{ltb, leb, eqb}
-use Rattle.base.specs.Limits.{inUnits}
+use Rattle.base.specs.Limits.{inTenths}
 use Rattle.base.specs.Rounding.{rounded}
 use Rattle.base.specs.Answer.{Test, refuseIf, first, Answer, figures, refusal, answer}
 use Rattle.table.specs.Table.{Row, rowOf, Table, unknown, rowsOf, lastLevel, tablesTests}
@@ -20,7 +20,7 @@ pub record Gap : Type 0 where
 abbrev pub gapAfter : Row → List Row → ℕ → Gap
 gapAfter low [] level = record { low = low; high = low }
 gapAfter low (high ∷ rows) level =
-    cond (leb level (inUnits (high .level))) (record { low = low; high = high }) (gapAfter high rows level)
+    cond (leb level (inTenths (high .level))) (record { low = low; high = high }) (gapAfter high rows level)
 
 -- the rows around a level: the first that reaches it, and the one below; two rows of 0 where there are none
 abbrev pub rowsAround : List Row → ℕ → Gap
@@ -30,8 +30,8 @@ rowsAround (row ∷ rows) level = gapAfter row rows level
 -- R of 100 times the capacity at a level, linear between two rows, in 0.01 dm³
 unfoldable pub interpolated : Gap → ℕ → ℕ
 interpolated g level =
-    let low = inUnits (g .low .level) in
-    let span = inUnits (g .high .level) - low in
+    let low = inTenths (g .low .level) in
+    let span = inTenths (g .high .level) - low in
     rounded (100 * (g .low .capacity * span + (g .high .capacity - g .low .capacity) * (level - low))) span
 
 -- R of 100 times the capacity at a level
@@ -40,11 +40,11 @@ capacityAt rows level = interpolated (rowsAround rows level) level
 
 -- V0: from the water level to the mean level, each capacity rounded by itself
 unfoldable pub v0 : List Row → ℕ → ℕ → ℕ
-v0 rows mean water = capacityAt rows mean - capacityAt rows (inUnits water)
+v0 rows mean water = capacityAt rows mean - capacityAt rows (inTenths water)
 
 -- a level above the table's last level
 abbrev pub above : List Row → ℕ → Bool
-above rows level = ltb (inUnits (lastLevel rows)) level
+above rows level = ltb (inTenths (lastLevel rows)) level
 
 -- 16: the mean level is 0 or above the table's last level
 abbrev pub levelBad : List Row → ℕ → Bool
@@ -52,7 +52,7 @@ levelBad rows mean = eqb mean 0 || above rows mean
 
 -- 17: the water level is not below the mean level
 abbrev pub waterBad : ℕ → ℕ → Bool
-waterBad mean water = leb mean (inUnits water)
+waterBad mean water = leb mean (inTenths water)
 
 -- the tests of a type, and of a mean level and a water level on the rows of that type
 abbrev pub kindTests : List Table → ℕ → List Test

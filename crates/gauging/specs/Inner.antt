@@ -4,7 +4,7 @@ use mathlib.Core.Path.{_≡_}
 use mathlib.Core.Bool.{false}
 use mathlib.Core.List.{List, [], _∷_}
 use lib.ListN.{getD}
-use Rattle.base.specs.Limits.{levelUnits, inUnits}
+use Rattle.base.specs.Limits.{tenths, inTenths}
 use Rattle.base.specs.Answer.{Answer, figures, refusal, first, answer}
 use Rattle.table.specs.Table.{Table, rowOf, rowsOf, laterRowBad}
 use Rattle.gauging.specs.Capacity.{Gap, rowsAround, reachTests}
@@ -12,10 +12,10 @@ use Rattle.gauging.specs.declared.Neighbours.{Neighbours}
 use Rattle.gauging.specs.declared.Around.{Around}
 use Rattle.gauging.specs.declared.Around.the-variants.{Rows, Refused}
 
--- the least whole mm that reaches a level: the level is at most `inUnits h` exactly where mm is at most h
+-- the least whole mm that reaches a level: the level is at most `inTenths h` exactly where mm is at most h
 pub record Reaches (level mm : ℕ) : Type 0 where
-  pub enough : level ≤ inUnits mm
-  pub least : inUnits mm < level + levelUnits
+  pub enough : level ≤ inTenths mm
+  pub least : inTenths mm < level + tenths
 
 -- a row from `low` to `last` that is `low` or does not reach `reach` mm
 pub record RowBelow (levels : List ℕ) (low last reach r : ℕ) : Type 0 where
@@ -35,8 +35,8 @@ gapOf n = record { low = rowOf (n .«low_level») (n .«low_capacity»); high = 
 -- two rows as they follow one another in a table that is not refused, and a level from the lower to the higher
 pub record Between (g : Gap) (level : ℕ) : Type 0 where
   pub follows : laterRowBad (g .low) (g .high) ≡ false
-  pub passed : inUnits (g .low .level) ≤ level
-  pub reached : level ≤ inUnits (g .high .level)
+  pub passed : inTenths (g .low .level) ≤ level
+  pub reached : level ≤ inTenths (g .high .level)
 
 -- the rows around a level by their four numbers, on tables that are not refused
 abbrev pub gapNumbers : Gap → List ℕ

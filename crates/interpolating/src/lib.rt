@@ -1,22 +1,22 @@
-// The rows of one table: those that a level passes, and the capacity between two. Rows are in mm and dm³, a level is in units, of
-// which LEVEL_UNITS make a millimetre.
+// The rows of one table: those that a level passes, and the capacity between two. Rows are in mm and dm³, a level is in tenths
+// of a mm.
 ghost use mathlib.Core.Path.{_≡_};
 ghost use Prim.Native.Nat.{_+_, _≤_, _<_};
-ghost use Rattle.base.specs.Limits.{inUnits};
+ghost use Rattle.base.specs.Limits.{inTenths};
 ghost use Rattle.table.specs.Layout.{places};
 ghost use Rattle.gauging.specs.Capacity.{interpolated};
 ghost use Rattle.gauging.specs.Inner.{gapAt, gapOf, Between, Reaches, RowBelow};
-use base::LEVEL_UNITS;
+use base::TENTHS;
 use base::lesser;
 use base::wide;
 use gauging::Neighbours;
 use table::PLACES;
 
-// A level in mm, in units.
-pub fn in_units(mm: u32) -> u64
-    ensures { λ r. ⌜ r ≡ inUnits mm ⌝ }
+// A level in mm, in tenths of a mm.
+pub fn in_tenths(mm: u32) -> u64
+    ensures { λ r. ⌜ r ≡ inTenths mm ⌝ }
 {
-    (LEVEL_UNITS as u64) * (mm as u64)
+    TENTHS * (mm as u64)
 }
 
 // The least whole mm that reaches a level.
@@ -26,7 +26,7 @@ pub fn least_mm(level: u64) -> u64
     if level == 0 {
         return 0;
     }
-    (level - 1) / LEVEL_UNITS as u64 + 1
+    (level - 1) / TENTHS + 1
 }
 
 // Of the rows `step` apart from `low` up to `last`, the last that does not reach `reach` mm; `low` where each after it does. The
@@ -76,8 +76,8 @@ pub fn interpolate(rows: Neighbours, level: u64) -> u32
     requires { ⌜ Between (gapOf rows) level ⌝ }
     ensures { λ r. ⌜ r ≡ interpolated (gapOf rows) level ⌝ }
 {
-    let passed = in_units(rows.low_level);
-    let span = in_units(rows.high_level) - passed;
+    let passed = in_tenths(rows.low_level);
+    let span = in_tenths(rows.high_level) - passed;
     let under = rows.low_capacity;
     let rise = ((rows.high_capacity - under) as u64) * (level - passed);
     // what the lower row has is whole, so only the rise is divided: a small number, for which a division is quick

@@ -19,21 +19,26 @@ struct Rows {
     capacities: [u32; 4],
 }
 
-// The first car of document 01's sheet at a level, over water, in mm.
-fn rack_car(level: u32, water_level: u32) -> Car {
+// The first car of document 01's sheet with two readings, over water, in mm.
+fn dipped_car(first: u32, second: u32, water_level: u32) -> Car {
     Car {
         number: 50000001,
         kind: 1,
         grade: 3,
         stick: 1,
         count: 2,
-        readings: [level, level, 0, 0],
+        readings: [first, second, 0, 0],
         water_level,
         temperature: 600,
         density: Density15(9500),
         water: 50,
         impurities: 20,
     }
+}
+
+// The same at a level in mm.
+fn rack_car(level: u32, water_level: u32) -> Car {
+    dipped_car(level, level, water_level)
 }
 
 // Annex Д's car, on a table of type 1.
@@ -93,8 +98,8 @@ fn show(rows: Rows, car: Car, errors: Errors) {
     }
 }
 
-// The first car of document 01's sheet, on a row and above one, with smaller errors and with none; one rounding twice, and a level term
-// of 10,000 and above.
+// The first car of document 01's sheet, on a row, half a mm and 1 mm above one, with smaller errors and with none; one rounding twice,
+// and a level term of 10,000 and above.
 fn show_rack() {
     let rack = Rows {
         count: 4,
@@ -105,6 +110,7 @@ fn show_rack() {
     let level_alone = errors_of([0, 0, 0], [0, 0], 100);
     show(rack, rack_car(1500, 0), ordinary);
     show(rack, rack_car(1000, 0), ordinary);
+    show(rack, dipped_car(1000, 1001, 0), ordinary);
     show(rack, rack_car(1001, 0), ordinary);
     show(
         rack,

@@ -1,4 +1,4 @@
-// The stick compared with the tape: a half both ways, 2 mm and beyond, no difference, 28 and 29.
+// The stick, at a level in tenths of a mm, compared with the tape: a half both ways, 2 mm and beyond, no difference, 28 and 29.
 use showing::field;
 use showing::refused;
 use showing::say;
@@ -30,9 +30,9 @@ fn show_comparison(x: Comparison) {
     say(b"\n");
 }
 
-fn show(stick: u32, count: u32, readings: [u32; TAPE_READINGS]) {
+fn show(stick: u64, count: u32, readings: [u32; TAPE_READINGS]) {
     say(b"stick,");
-    field(stick as u64);
+    field(stick);
     say(b" and");
     field(count as u64);
     say(b" readings:");
@@ -43,15 +43,20 @@ fn show(stick: u32, count: u32, readings: [u32; TAPE_READINGS]) {
 }
 
 pub(crate) fn show_all() {
-    show(1500, 16, tape_of(1501, 1501, 1500));
-    show(1500, 16, tape_of(1499, 1499, 1500));
-    show(1500, 12, tape_of(1501, 1500, 1500));
-    show(1500, 10, tape_of(1498, 1498, 1498));
-    show(1500, 10, tape_of(1497, 1498, 1498));
-    show(1500, 20, tape_of(1503, 1502, 1502));
-    show(1000, 20, tape_of(1000, 1000, 1000));
-    show(1500, 9, tape_of(1500, 1500, 1500));
+    show(15000, 16, tape_of(1501, 1501, 1500));
+    show(15000, 16, tape_of(1499, 1499, 1500));
+    show(15001, 16, tape_of(1501, 1501, 1500));
+    show(15000, 12, tape_of(1501, 1500, 1500));
+    show(15000, 10, tape_of(1498, 1498, 1498));
+    show(15020, 20, tape_of(1500, 1500, 1500));
+    show(15021, 20, tape_of(1500, 1500, 1500));
+    show(15000, 10, tape_of(1497, 1498, 1498));
+    show(15000, 20, tape_of(1503, 1502, 1502));
+    show(10000, 20, tape_of(1000, 1000, 1000));
+    show(10001, 20, tape_of(1000, 1000, 1000));
+    show(15000, 9, tape_of(1500, 1500, 1500));
     show(0, 21, tape_of(1500, 1500, 1500));
-    show(3601, 10, tape_of(1500, 1500, 1500));
-    show(1500, 10, tape_of(0, 1500, 1500));
+    show(9, 10, tape_of(1500, 1500, 1500));
+    show(36001, 10, tape_of(1500, 1500, 1500));
+    show(15000, 10, tape_of(0, 1500, 1500));
 }

@@ -4,7 +4,7 @@ ghost use mathlib.Core.Bool.{false};
 ghost use mathlib.Core.List.{List};
 ghost use Prim.Native.Nat.{ℕ, _≤_};
 ghost use Rattle.base.specs.Answer.{accepts, first, firstNumber, answer};
-ghost use Rattle.base.specs.Limits.{highestLevel, inUnits};
+ghost use Rattle.base.specs.Limits.{highestLevel, inTenths};
 ghost use Rattle.table.specs.Layout.{tablesOf};
 ghost use Rattle.table.specs.Inner.{Good};
 ghost use Rattle.grading.specs.Grades.{gradeBad, oilTests};
@@ -39,7 +39,7 @@ fn measured_of(car: Car) -> Measured
 {
     let readings = car.readings;
     let density = car.density;
-    let level = level::mean_of(readings) as u64;
+    let level = level::mean_of(readings);
     Measured {
         kind: car.kind,
         grade: car.grade,
@@ -65,7 +65,7 @@ fn early_refusal(d: Directory, m: Measured) -> u32
 
 // The six figures of what is measured, from V0 (0.01 dm³) on, or the first of 18 to 21, for a grade that there is.
 fn from_volume(number: u32, m: Measured, v0: u32) -> CarAnswer
-    requires { ⌜ (m .level ≤ inUnits highestLevel) × (v0 ≤ greatestVolume) × (gradeBad (m .grade) ≡ false) ⌝ }
+    requires { ⌜ (m .level ≤ inTenths highestLevel) × (v0 ≤ greatestVolume) × (gradeBad (m .grade) ≡ false) ⌝ }
     ensures { λ r. ⌜ carTold r ≡ answer (first (oilTests (m .grade) (m .temperature) (m .density .0) (m .water) (m .impurities))) (figuresFrom number m v0) ⌝ }
 {
     let refusal = grades::oil_refusal(m.grade, m.temperature, m.density, m.water, m.impurities);

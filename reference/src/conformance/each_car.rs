@@ -6,7 +6,7 @@ use super::Case;
 use crate::car::Car;
 
 /// Four tables with ends of their own, uneven, none of them on a common scale.
-const TABLES: &str = "
+pub const TABLES: &str = "
     T 7 4
     R 0 0
     R 701 9001
@@ -26,7 +26,7 @@ const TABLES: &str = "
     R 3100 190000";
 
 /// Type and last level of each.
-const ENDS: [(u32, u32); 4] = [(7, 2800), (9_999, 3300), (1, 2400), (62, 3100)];
+pub const ENDS: [(u32, u32); 4] = [(7, 2800), (9_999, 3300), (1, 2400), (62, 3100)];
 
 /// Lowest temperature, highest water, impurities and density at 15 °C of each grade.
 const GRADES: [[u32; 4]; 4] =
@@ -64,9 +64,9 @@ fn own_end() -> Case {
     Case::new(
         "refusal-16-by-the-end-of-the-own-table",
         cars_on(tables, &[at(1, 1, 3000), at(2, 1, 3001), at(3, 2, 2000), at(4, 2, 2001)]),
-        "A 1 3000 6000000 5815740 55250 54863
+        "A 1 30000 6000000 5815740 55250 54863
          X 2 16
-         A 3 2000 4000000 3877160 36833 36575
+         A 3 20000 4000000 3877160 36833 36575
          X 4 16
          S 2 92083 91438
          G 1 0 0 0
@@ -149,7 +149,7 @@ fn car(grade: usize, place: usize) -> Car {
     car
 }
 
-/// Two or four readings with this mean, which is not the first, the second or the highest.
+/// Two or four readings whose mean lies half or a third of a mm below a level, and is none of them.
 fn read(car: &mut Car, level: u32, four: usize, order: usize) {
     car.given = if four % 2 == 0 { 2 } else { 4 };
     car.readings = match (car.given, order % 2) {

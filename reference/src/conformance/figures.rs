@@ -6,7 +6,7 @@ use crate::car::Car;
 use crate::sheets::random::Random;
 
 /// Seeds chosen so that wrong calculations show on few sheets.
-const SEEDS: [u64; 7] = [700, 416, 974, 996, 906, 697, 981];
+const SEEDS: [u64; 9] = [700, 416, 974, 996, 906, 697, 981, 3_863, 3_004];
 
 pub fn cases() -> Vec<Case> {
     let listings = include_str!("figures.txt").split("--\n");

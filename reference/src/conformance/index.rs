@@ -31,14 +31,18 @@ const REFUSALS: [&str; 24] = [
 ];
 
 /// Words of a name that tell the step it tries.
-const STEPS: [(&str, &str); 21] = [
+const STEPS: [(&str, &str); 25] = [
     ("span", "refusal 23"),
+    ("last-level", "refusal 16"),
+    ("below-1-mm", "refusal 16"),
+    ("water-level", "refusal 17"),
+    ("rows-not", "step 2"),
+    ("capacit", "step 2"),
     ("mean", "step 1"),
     ("reading", "step 1"),
     ("triple", "step 1"),
     ("first-two", "step 1"),
-    ("level-1", "step 1"),
-    ("capacit", "step 2"),
+    ("tenths", "steps 1 and 2"),
     ("flat", "step 2"),
     ("levels", "steps 1 and 2"),
     ("volume-at-temperature", "step 3"),
@@ -60,7 +64,7 @@ pub fn of(cases: &[Case]) -> String {
     let mut text = format!(
         "# Index of the {} sheets\n\n\
          Made by `make_conformance`. The rule is that of document 01, for totals by grade that of \
-         document 02 (a), for refusal 23 that of 02 (b); lines are counted from 1 on the sheet.\n\n| Sheet | Rule | Shown by | What it tries |\n|---|---|---|---|\n",
+         document 02 (a), for refusal 23 that of 02 (b), for levels in tenths of a mm that of 02 (g); lines are counted from 1 on the sheet.\n\n| Sheet | Rule | Shown by | What it tries |\n|---|---|---|---|\n",
         cases.len()
     );
     let mut sorted: Vec<&Case> = cases.iter().collect();

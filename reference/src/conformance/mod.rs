@@ -26,6 +26,8 @@ mod span_order;
 mod spans;
 pub mod steps;
 mod tables;
+mod tenths;
+mod tenths_partings;
 mod text;
 mod totals;
 pub mod vectors;
@@ -54,9 +56,11 @@ pub fn cases() -> Vec<Case> {
         ends::cases(),
         cars::cases(),
         levels::cases(),
+        tenths::cases(),
         spans::cases(),
         roundings::cases(),
         calculation::cases(),
+        tenths_partings::cases(),
         order::cases(),
         span_order::cases(),
         sources::cases(),

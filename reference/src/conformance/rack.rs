@@ -29,7 +29,7 @@ pub const CAR: Car = Car {
 
 /// What the sheet of the first car alone gives.
 pub const LISTING: &str = "
-    A 50000001 1500 3500000 3392515 32229 32003
+    A 50000001 15000 3500000 3392515 32229 32003
     S 1 32229 32003
     G 1 0 0 0
     G 2 0 0 0
@@ -74,11 +74,16 @@ pub fn cars_on(tables: &str, cars: &[Car]) -> Vec<u8> {
 }
 
 /// Cars on the table of the paper's sheet, numbered from 1.
-pub fn numbered(name: &'static str, cars: &[Car], listing: &str) -> Case {
+pub fn on_rack(cars: &[Car]) -> Vec<u8> {
     let numbers = 1..;
     let cars: Vec<Car> =
         cars.iter().zip(numbers).map(|(car, number)| Car { number, ..*car }).collect();
-    Case::new(name, cars_on(TABLE, &cars), listing)
+    cars_on(TABLE, &cars)
+}
+
+/// The same as a case.
+pub fn numbered(name: &'static str, cars: &[Car], listing: &str) -> Case {
+    Case::new(name, on_rack(cars), listing)
 }
 
 pub fn cases() -> Vec<Case> {
@@ -87,7 +92,7 @@ pub fn cases() -> Vec<Case> {
         Case::new(
             "paper-sheet",
             cars_on(TABLE, &[CAR, second]),
-            "A 50000001 1500 3500000 3392515 32229 32003
+            "A 50000001 15000 3500000 3392515 32229 32003
              X 50000002 17
              S 1 32229 32003
              G 1 0 0 0
@@ -105,11 +110,11 @@ pub fn cases() -> Vec<Case> {
                 Car { readings: [3000, 3000, 0, 0], ..CAR },
                 Car { readings: [3001, 3001, 0, 0], ..CAR },
             ],
-            "A 1 1501 3503000 3395423 32257 32031
-             A 2 1501 3503000 3395423 32257 32031
+            "A 1 15010 3503000 3395423 32257 32031
+             A 2 15010 3503000 3395423 32257 32031
              X 3 15
-             A 4 1 2000 1939 18 18
-             A 5 3000 7000000 6785030 64458 64007
+             A 4 10 2000 1939 18 18
+             A 5 30000 7000000 6785030 64458 64007
              X 6 16
              S 4 128990 128087
              G 1 0 0 0
@@ -128,11 +133,11 @@ pub fn cases() -> Vec<Case> {
                 Car { water: 100, ..CAR },
             ],
             "X 1 18
-             A 2 1500 3500000 3440203 32682 32453
+             A 2 15000 3500000 3440203 32682 32453
              X 3 19
              X 4 19
              X 5 20
-             A 6 1500 3500000 3392515 32229 31842
+             A 6 15000 3500000 3392515 32229 31842
              S 2 64911 64295
              G 1 0 0 0
              G 2 0 0 0
@@ -145,7 +150,7 @@ pub fn cases() -> Vec<Case> {
                 Car { grade: 1, density: 9584, water: 0, impurities: 0, ..CAR },
                 Car { grade: 1, density: 9585, water: 0, impurities: 0, ..CAR },
             ],
-            "A 1 1500 3500000 3393815 32526 32526
+            "A 1 15000 3500000 3393815 32526 32526
              X 2 21
              S 1 32526 32526
              G 1 1 32526 32526

@@ -4,7 +4,7 @@ use super::rack::{cars_on, totals, CAR, NONE_ACCEPTED, TABLE};
 use super::Case;
 use crate::car::Car;
 
-const FIGURES: &str = "1500 3500000 3392515 32229 32003";
+const FIGURES: &str = "15000 3500000 3392515 32229 32003";
 const GROSS: u32 = 32_229;
 const NET: u32 = 32_003;
 

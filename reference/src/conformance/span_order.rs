@@ -36,7 +36,7 @@ fn numbers() -> Vec<Case> {
         Case::new(
             "order-11-before-23",
             cars_on(TABLE, &[Car { number: 7, ..CAR }, of(7), of(8), of(8)]),
-            "A 7 1500 3500000 3392515 32229 32003
+            "A 7 15000 3500000 3392515 32229 32003
              X 7 11
              X 8 23
              X 8 11

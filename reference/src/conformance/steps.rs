@@ -25,7 +25,7 @@ pub fn of(cases: &[Case]) -> String {
     let mut text = String::from(
         "# Figures on the way\n\n\
          Made by `make_conformance`: for the accepted cars of some sheets the figures of every step of \
-         document 01, in its units. u1 is X.\n\n\
+         document 01, in its units, the level in 0.1 mm. u1 is X.\n\n\
          | Sheet | Car | Level | V0 | Vt | B | X | u2 | u3 | u4 | u5 | u6 | E | V15 | Gross | Net |\n\
          |---|---|---|---|---|---|---|---|---|---|---|---|---|---|---|---|\n",
     );

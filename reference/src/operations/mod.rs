@@ -8,6 +8,7 @@ use std::sync::LazyLock;
 
 use crate::car::{self, Car, Figures};
 use crate::field;
+use crate::level::in_tenths;
 use crate::line;
 use crate::permitted::{self, Errors, PermittedError};
 use crate::refusal::Refusal;
@@ -96,18 +97,20 @@ pub fn check_tables(handed_in: &[HandedIn]) -> Result<Tables, Refusal> {
     Ok(tables)
 }
 
-/// V0 in 0.01 dm³, from a type, a mean level and a water level: refusals 7, 8, 12, 16 and 17.
+/// V0 in 0.01 dm³, from a type, a mean level in 0.1 mm and a water level in mm: refusals 7, 8, 12, 16
+/// and 17.
 pub fn volume(
     handed_in: &[HandedIn],
     car_type: u32,
-    level: u32,
+    level: u64,
     water_level: u32,
 ) -> Result<u64, Refusal> {
     let tables = check_tables(handed_in)?;
     let table = tables.find(car_type).ok_or(Refusal::Type)?;
-    if level == 0 || level > table.last_level() {
+    if level == 0 || level > in_tenths(table.last_level()) {
         return Err(Refusal::Level);
     }
+    let water_level = in_tenths(water_level);
     if water_level >= level {
         return Err(Refusal::WaterLevel);
     }

@@ -31,14 +31,21 @@ pub fn draw(random: &mut Random, tables: &[Table]) -> Car {
     let highest = table.rows.last().map_or(0, |row| row.level);
     readings::draw(random, &mut car, level, highest);
     if let Ok(level) = level::mean(car.given, car.readings) {
-        car.water_level = match random.below(4) {
+        let below = highest_below(level);
+        car.water_level = match random.below(5) {
             0 => 0,
-            1 => level - 1,
-            2 => draw_level(random, table).min(level - 1),
-            _ => random.between(0, (level - 1).min(200)),
+            1 => below,
+            2 => below.saturating_sub(1),
+            3 => draw_level(random, table).min(below),
+            _ => random.between(0, below.min(200)),
         };
     }
     car
+}
+
+/// The highest water level, in mm, below a mean level in 0.1 mm.
+fn highest_below(level: u64) -> u32 {
+    ((level - 1) / 10) as u32
 }
 
 fn draw_number(random: &mut Random) -> u32 {
@@ -126,8 +133,11 @@ fn spoil_contents(random: &mut Random, car: &mut Car) {
     let (coolest, water, impurities, densest) = GRADES[(car.grade as usize).clamp(1, 4) - 1];
     match random.below(5) {
         0 => {
-            let level = level::mean(car.given, car.readings).unwrap_or(1);
-            car.water_level = random.pick(&[level - 1, level, level + 1, FAR]);
+            let below = highest_below(level::mean(car.given, car.readings).unwrap_or(1));
+            let around = [below.saturating_sub(1), below, below + 1, below + 2];
+            // Ten times the last two is 4 and 10 in 16 bits.
+            let far = [(10 * below).min(FAR), FAR, 6_554, 65_537];
+            car.water_level = random.pick(&[around, far].concat());
         }
         1 => {
             let beyond = [199, 200, 399, 400, 900, 901, 0, FAR, coolest - 1];

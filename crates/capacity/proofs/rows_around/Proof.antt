@@ -11,7 +11,7 @@ use lib.ListN.{length, getD}
 use borrow.Author.Needs.{needs}
 use denote.Ref.{now}
 use Rattle.base.specs.Answer.{first, accepts, Answer, figures}
-use Rattle.base.specs.Limits.{mostTables, mostRows, inUnits}
+use Rattle.base.specs.Limits.{mostTables, mostRows, inTenths}
 use Rattle.base.proofs.Choice.{below, never}
 use Rattle.table.specs.Table.{Row, Table, laterRowBad, laterTests, rowsTests}
 use Rattle.table.specs.Layout.{places, rowsFrom, tableAt, tablesFrom}
@@ -29,8 +29,8 @@ use Rattle.capacity.proofs.rows_around.Tie as tie
 abbrev Inv-loop : tie.InvT-loop
 Inv-loop levels capacities kind level count reach k start last low₀ low =
     (last < places)
-    × (inUnits (getD levels low 0) ≤ level)
-    × (start < low → inUnits (getD levels low 0) < level)
+    × (inTenths (getD levels low 0) ≤ level)
+    × (start < low → inTenths (getD levels low 0) < level)
     × (first (laterTests (rowAt levels capacities low) (rowsFrom levels capacities (low + 1) (last - low))) ≡ accepts)
     × (foundAfter (rowAt levels capacities start) (rowsFrom levels capacities (start + 1) (last - start)) level
     ≡ foundAfter (rowAt levels capacities low) (rowsFrom levels capacities (low + 1) (last - low)) level)
@@ -151,10 +151,10 @@ module _ (c : tie.In-loop Inv-loop μ-loop Inv-tables μ-tables) where
   abbrev gap : Gap
   gap = gapAt (now (begun .args .levels)) (now (begun .args .capacities)) low
 
-  between : begun .args .level ≤ inUnits (gap .high .level) → Between gap (begun .args .level)
+  between : begun .args .level ≤ inTenths (gap .high .level) → Between gap (begun .args .level)
   between h = record { follows = good .0; passed = c .before .loop .inv .1; reached = h }
 
-  answers : begun .args .level ≤ inUnits (gap .high .level) → figures (gapNumbers gap) ≡ answerOn begun (tables begun 0 (begun .args .d .count))
+  answers : begun .args .level ≤ inTenths (gap .high .level) → figures (gapNumbers gap) ≡ answerOn begun (tables begun 0 (begun .args .d .count))
   answers h =
       sym (chosen (c .before .before .before) ∙ found ∙ row-reaches (row begun low) (begun .args .level) (row begun (low + 1)) beyond h (rising-from (row begun (low + 1)) beyond (good .1)))
 
@@ -205,7 +205,7 @@ loop-holds c =
     let low = c .skip-rows .result in
     let e = c .skip-rows .ensures in
     let a = start (t .before) .args in
-    let passed : (at t < low → inUnits (getD (now (a .levels)) low 0) < a .level) = λ h. omega (arith, e .below h, reaches (t .before)) in
+    let passed : (at t < low → inTenths (getD (now (a .levels)) low 0) < a .level) = λ h. omega (arith, e .below h, reaches (t .before)) in
     let s = rows-skipped (now (a .levels)) (now (a .capacities)) (lastOf (start (t .before)) (number (t .before))) (a .level) (low - at t) (at t) low (omega (arith, e .from)) (e .to) passed (f .rest) in (
       omega (arith, known (t .before)),
       ⊎-elim (λ (h : at t < low). omega (arith, passed h)) (λ (h : low ≤ at t). omega (arith, f .level-zero, ap (λ (i : ℕ). getD (now (a .levels)) i 0) (le-antisymm h (e .from)))) (below (at t) low),
@@ -235,7 +235,7 @@ loop-less c = search needs
 loop-again : tie.Need-loop-again Inv-loop μ-loop Inv-tables μ-tables
 loop-again c =
     let t = c .before .before .before in
-    let passed : inUnits (row (begun t) (low t + 1) .level) < begun t .args .level = omega (arith, c .if2 .left, c .before .wide .ensures .same, reaches (turn t)) in (
+    let passed : inTenths (row (begun t) (low t + 1) .level) < begun t .args .level = omega (arith, c .if2 .left, c .before .wide .ensures .same, reaches (turn t)) in (
       t .before .loop .inv .0,
       omega arith,
       λ h. passed,
@@ -268,7 +268,7 @@ returns c =
 returns-2 : tie.Need-returns-2 Inv-loop μ-loop Inv-tables μ-tables
 returns-2 c =
     let t = c .before .before .before .before in
-    let h : begun t .args .level ≤ inUnits (gap t .high .level) = omega (arith, c .before .if2 .taken, c .before .before .wide .ensures .same, reaches (turn t)) in
+    let h : begun t .args .level ≤ inTenths (gap t .high .level) = omega (arith, c .before .if2 .taken, c .before .before .wide .ensures .same, reaches (turn t)) in
     let e : gapOf (c .neighbours .result) ≡ gap t = c .neighbours .ensures in
     record {
       told = ap (λ (g : Gap). figures (gapNumbers g)) e ∙ answers t h;

@@ -1,12 +1,12 @@
 -- `capacity::volume_on` meets its contract: the two capacities are those of the rows, and the difference is not below 0 since the capacity never falls.
 use Prim.Native.Nat.{ℕ, _-_}
 use mathlib.Core.List.{List, [], _∷_}
-use mathlib.Core.Path.{_≡_, sym, ap₂, _∙_}
+use mathlib.Core.Path.{_≡_, sym, ap, ap₂, _∙_}
 use native.Mathlib.Omega.{arith}
 use borrow.Author.Needs.{needs}
 use denote.Ref.{now}
 use Rattle.base.specs.Answer.{figures}
-use Rattle.base.specs.Limits.{inUnits}
+use Rattle.base.specs.Limits.{inTenths}
 use Rattle.base.proofs.Tests.{tests}
 use Rattle.table.specs.Table.{Table, rowsOf}
 use Rattle.table.specs.Layout.{tablesOf}
@@ -30,21 +30,23 @@ full c =
 passed : (c : tie.Else2) → let s = c .before .before .before .before .before .before .before in Accepted (all s) (s .args .kind) (s .args .mean) (s .args .water)
 passed c =
     let f = full (c .before .before .before) in
-    record { known = f .known; positive = omega (arith, c .before .before .if1 .left); low = f .low; above-water = omega (arith, c .if2 .left, c .before .in-units .ensures) }
+    record { known = f .known; positive = omega (arith, c .before .before .if1 .left); low = f .low; above-water = omega (arith, c .if2 .left, c .before .in-tenths .ensures) }
 
 -- the answer at the water level
 at-water : (c : tie.After-capacity-at2) →
     let s = c .before .before .before .before .before .before .before .before in
-    volumeTold (c .capacity-at2 .result) ≡ capacityAnswer (all s) (s .args .kind) (inUnits (s .args .water))
-at-water c = rw (c .before .before .in-units .ensures) at (c .capacity-at2 .ensures)
+    volumeTold (c .capacity-at2 .result) ≡ capacityAnswer (all s) (s .args .kind) (inTenths (s .args .water))
+at-water c =
+    let s = c .before .before .before .before .before .before .before .before in
+    c .capacity-at2 .ensures ∙ ap (capacityAnswer (all s) (s .args .kind)) (c .before .before .in-tenths .ensures)
 
 -- the capacity at the water level
 under : (c : tie.After-known-told2) →
     let s = c .before .before .before .before .before .before .before .before .before .before .before in
-    Reached (all s) (s .args .kind) (inUnits (s .args .water)) (c .before .at-water .given .0 .0)
+    Reached (all s) (s .args .kind) (inTenths (s .args .water)) (c .before .at-water .given .0 .0)
 under c =
     let s = c .before .before .before .before .before .before .before .before .before .before .before in
-    reached (all s) (s .args .kind) (inUnits (s .args .water)) (at-water (c .before .before .before)) (c .before .at-water .given .1)
+    reached (all s) (s .args .kind) (inTenths (s .args .water)) (at-water (c .before .before .before)) (c .before .at-water .given .1)
 
 capacity-at-requires : tie.Need-capacity-at-requires
 capacity-at-requires c κs = search needs
@@ -64,14 +66,14 @@ returns-2 : tie.Need-returns-2
 unfolding volumeOn
 returns-2 c = let f = full (c .before) in search (tests, f .known)
 
-in-units-requires : tie.Need-in-units-requires
-in-units-requires c κs = search needs
+in-tenths-requires : tie.Need-in-tenths-requires
+in-tenths-requires c κs = search needs
 
 returns-3 : tie.Need-returns-3
 returns-3 c =
     let s = c .before .before .before .before .before .before .before in
     let f = full (c .before .before .before) in
-    sym (water-refused (all s) (s .args .kind) (s .args .mean) (s .args .water) (f .known) (c .before .before .if1 .left) (f .low) (omega (arith, c .if2 .taken, c .before .in-units .ensures)))
+    sym (water-refused (all s) (s .args .kind) (s .args .mean) (s .args .water) (f .known) (c .before .before .if1 .left) (f .low) (omega (arith, c .if2 .taken, c .before .in-tenths .ensures)))
 
 capacity-at-requires-2 : tie.Need-capacity-at-requires-2
 capacity-at-requires-2 c κs = search needs
@@ -88,7 +90,7 @@ returns-4 c =
     let w = c .before .before in
     let s = w .before .before .before .before .before .before .before .before in
     let a = passed (w .before) in
-    absurd (not-refused (all s) (s .args .kind) (inUnits (s .args .water)) (a .known) (omega (arith, a .low, a .above-water)) (at-water w) (c .enum-told2 .given .1))
+    absurd (not-refused (all s) (s .args .kind) (inTenths (s .args .water)) (a .known) (omega (arith, a .low, a .above-water)) (at-water w) (c .enum-told2 .given .1))
 
 sub-oil : tie.Need-sub-oil
 sub-oil c =
@@ -99,7 +101,7 @@ sub-oil c =
       arith,
       full (e .before .before .before) .value,
       under c .value,
-      capacity-mono (rowsOf (s .args .kind) (all s)) (tables-rising (s .args .kind) (all s) (s .pre .accepted) (a .known)) {h = inUnits (s .args .water)} (omega (arith, a .above-water)) (a .low),
+      capacity-mono (rowsOf (s .args .kind) (all s)) (tables-rising (s .args .kind) (all s) (s .pre .accepted) (a .known)) {h = inTenths (s .args .water)} (omega (arith, a .above-water)) (a .low),
     )
 
 returns-5 : tie.Need-returns-5
@@ -119,7 +121,7 @@ volume-on-spec =
     enum-told
     returns
     returns-2
-    in-units-requires
+    in-tenths-requires
     returns-3
     capacity-at-requires-2
     enum-known-at-water

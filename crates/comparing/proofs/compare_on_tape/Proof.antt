@@ -4,7 +4,7 @@ use mathlib.Core.Path.{_≡_, refl, sym, ap, _∙_}
 use mathlib.Core.Bool.{true, false}
 use mathlib.Core.List.{[], _∷_}
 use borrow.Author.Needs.{needs}
-use Rattle.base.specs.Limits.{highestLevel, levelUnits}
+use Rattle.base.specs.Limits.{highestLevel, tenths}
 use Rattle.base.specs.Answer.{refuseIf, first, figures, refusal}
 use Rattle.base.proofs.Answer.{one-applies, one-passes, answer-figures, answer-refusal}
 use Rattle.base.proofs.Numbers.{inside}
@@ -38,7 +38,7 @@ enum-known-allowance c = search needs
 compare-requires : tie.Need-compare-requires
 compare-requires c κs =
     let s = start c in
-    record { tape = s .pre; most = inside levelUnits (levelUnits * highestLevel) (s .args .stick) (tape-takes c .0) .1 }
+    record { tape = s .pre; most = inside tenths (tenths * highestLevel) (s .args .stick) (tape-takes c .0) .1 }
 
 enum-told : tie.Need-enum-told
 enum-told c = search needs

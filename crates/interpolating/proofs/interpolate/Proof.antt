@@ -5,7 +5,7 @@ use mathlib.Core.Path.{_≡_}
 use native.Mathlib.Nat.{mul-le-mul}
 use native.Mathlib.Omega.{arith}
 use borrow.Author.Needs.{needs}
-use Rattle.base.specs.Limits.{inUnits, highestLevel, greatestCapacity}
+use Rattle.base.specs.Limits.{inTenths, highestLevel, greatestCapacity}
 use Rattle.table.proofs.Rising.{Follows, follows}
 use Rattle.gauging.specs.Inner.{gapOf}
 use Rattle.gauging.specs.Capacity.{Gap, interpolated}
@@ -20,16 +20,16 @@ rise : (c : tie.Start) → Follows (gap c .low) (gap c .high)
 rise c = follows _ _ (c .pre .follows)
 
 -- a capacity times a difference of levels
-most : {a b : ℕ} → a ≤ greatestCapacity → b ≤ inUnits highestLevel → a * b ≤ greatestCapacity * inUnits highestLevel
+most : {a b : ℕ} → a ≤ greatestCapacity → b ≤ inTenths highestLevel → a * b ≤ greatestCapacity * inTenths highestLevel
 most h k = mul-le-mul h k
 
--- past the two levels in units
-module _ (c : tie.After-in-units2) where
+-- past the two levels in tenths
+module _ (c : tie.After-in-tenths2) where
   abbrev start : tie.Start
   start = c .before .before
 
-  rise-product : (gap start .high .capacity - gap start .low .capacity) * (start .args .level - c .before .in-units .result)
-      ≤ greatestCapacity * inUnits highestLevel
+  rise-product : (gap start .high .capacity - gap start .low .capacity) * (start .args .level - c .before .in-tenths .result)
+      ≤ greatestCapacity * inTenths highestLevel
   rise-product = let f = rise start in most (omega arith) (omega (arith, start .pre .reached))
 
 -- the value in two parts, which is at most 20,000,000
@@ -39,13 +39,13 @@ value : (c : tie.After-round-half-up) →
 value c =
     let u = c .before .before in
     let s = start u in
-    (interpolated-split (gap s) (rise s) (s .args .level) (u .before .in-units .ensures) (u .in-units2 .ensures) (c .round-half-up .ensures), omega (arith, interpolated-most (gap s) (rise s) (s .pre .reached), rise s))
+    (interpolated-split (gap s) (rise s) (s .args .level) (u .before .in-tenths .ensures) (u .in-tenths2 .ensures) (c .round-half-up .ensures), omega (arith, interpolated-most (gap s) (rise s) (s .pre .reached), rise s))
 
-in-units-requires : tie.Need-in-units-requires
-in-units-requires c κs = search needs
+in-tenths-requires : tie.Need-in-tenths-requires
+in-tenths-requires c κs = search needs
 
-in-units-requires-2 : tie.Need-in-units-requires-2
-in-units-requires-2 c κs = search needs
+in-tenths-requires-2 : tie.Need-in-tenths-requires-2
+in-tenths-requires-2 c κs = search needs
 
 sub-span : tie.Need-sub-span
 sub-span c = search needs
@@ -84,8 +84,8 @@ pub interpolate-spec : {M : Type 1} → statement M
 interpolate-spec =
     tie.close
     (tie.spec
-    in-units-requires
-    in-units-requires-2
+    in-tenths-requires
+    in-tenths-requires-2
     sub-span
     sub-rise
     cast-rise

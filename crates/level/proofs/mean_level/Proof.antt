@@ -10,6 +10,7 @@ use Rattle.base.specs.Answer.{refuseIf, first, firstNumber, answer, figures, re
 use Rattle.base.proofs.Answer.{passed, refused-append, accepted-append}
 use Rattle.dip.specs.Level.{meanLevel, readingsTests, meanLevelAnswer}
 use Rattle.dip.proofs.Redip.{redip-right}
+use Rattle.dip.proofs.Tenths.{tenths-right}
 use Rattle.level.proofs.mean_level.Statement.{statement}
 use Rattle.level.proofs.mean_level.Tie as tie
 
@@ -32,7 +33,7 @@ returns c =
     let n = c .before .before .args .n in
     let x = c .before .before .args .readings in
     let e = by-readings n x (c .before .readings-refusal .ensures) (c .if1 .taken) in
-    (e, redip-right n x (search needs) e)
+    (e, redip-right n x (search needs) e, tenths-right n x e)
 
 mean-of-requires : tie.Need-mean-of-requires
 mean-of-requires c κs = search needs
@@ -43,7 +44,7 @@ returns-2 c =
     let x = s .before .args .readings in
     let none = sym (c .before .before .if1 .left) ∙ s .readings-refusal .ensures in
     let e = by-mean (s .before .args .n) x none (eq-eqb (meanLevel x) 0 (sym (c .before .mean-of .ensures) ∙ c .if2 .taken)) in
-    (e, redip-right (s .before .args .n) x (search needs) e)
+    (e, redip-right (s .before .args .n) x (search needs) e, tenths-right (s .before .args .n) x e)
 
 returns-3 : tie.Need-returns-3
 returns-3 c =
@@ -52,7 +53,7 @@ returns-3 c =
     let none = sym (c .before .before .if1 .left) ∙ s .readings-refusal .ensures in
     let level = c .before .mean-of .ensures in
     let e = ap (λ (k : ℕ). figures (k ∷ [])) level ∙ by-mean (s .before .args .n) x none (ne-eqb (meanLevel x) 0 (λ z. c .if2 .left (level ∙ z))) in
-    (e, redip-right (s .before .args .n) x (search needs) e)
+    (e, redip-right (s .before .args .n) x (search needs) e, tenths-right (s .before .args .n) x e)
 
 pub mean-level-spec : {M : Type 1} → statement M
 mean-level-spec =

@@ -15,11 +15,17 @@ returns-2 : tie.Need-returns-2
 unfolding formulaAnswer
 returns-2 c = formula-right (search decide)
 
-mul-t4 : tie.Need-mul-t4
-mul-t4 c = search needs
+sub-further : tie.Need-sub-further
+sub-further c = omega (arith, c .before .if1 .left)
 
-add-t5 : tie.Need-add-t5
-add-t5 c = search needs
+mul-allowance : tie.Need-mul-allowance
+mul-allowance c = search needs
+
+add-allowance : tie.Need-add-allowance
+add-allowance c = search needs
+
+cast-allowance : tie.Need-cast-allowance
+cast-allowance c = search needs
 
 returns-3 : tie.Need-returns-3
 returns-3 c =
@@ -28,4 +34,4 @@ returns-3 c =
 
 pub tape-allowance-spec : {M : Type 1} → statement M
 tape-allowance-spec =
-    tie.close (tie.spec returns returns-2 mul-t4 add-t5 returns-3)
+    tie.close (tie.spec returns returns-2 sub-further mul-allowance add-allowance cast-allowance returns-3)

@@ -38,7 +38,7 @@ cast-level c = omega (arith, c .before .before .before .before .pre .0)
 returns-2 : tie.Need-returns-2
 returns-2 c =
     let w = c .before .masses-of .ensures in
-    rw (none (c .before .before), w .v15, w .gross, w .net)
+    rw (none (c .before .before), w .v15, w .gross, w .net) refl
 
 pub from-volume-spec : {M : Type 1} → statement M
 from-volume-spec = tie.close (tie.spec oil-refusal-requires returns masses-of-requires cast-level returns-2)

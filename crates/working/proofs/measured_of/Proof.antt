@@ -6,11 +6,8 @@ use Rattle.working.proofs.measured_of.Tie as tie
 mean-of-requires : tie.Need-mean-of-requires
 mean-of-requires c κs = search needs
 
-cast-level : tie.Need-cast-level
-cast-level c = search needs
-
 returns : tie.Need-returns
 returns c = rw (c .mean-of .ensures)
 
 pub measured-of-spec : {M : Type 1} → statement M
-measured-of-spec = tie.close (tie.spec mean-of-requires cast-level returns)
+measured-of-spec = tie.close (tie.spec mean-of-requires returns)

@@ -6,9 +6,9 @@ use reference::level::tape_allowance;
 
 use crate::timing;
 
-/// Levels in mm: both ends of those that are answered, both sides of the first whole metre, and the
+/// Levels in 0.1 mm: both ends of those that are answered, both sides of the first whole metre, and the
 /// first level that is refused.
-const LEVELS: [u32; 5] = [1, 1_000, 1_001, 3_600, 3_601];
+const LEVELS: [u64; 5] = [10, 10_000, 10_001, 36_000, 36_001];
 
 /// Prints a line for each level.
 pub fn compare_all() {
@@ -16,12 +16,12 @@ pub fn compare_all() {
     println!("Nanoseconds for the tape allowance at one level, which the reference has in a list.");
     println!(
         "{:42} {:>6} {:>8} {:>9} {:>20}",
-        "level, mm", "answer", "proved", "reference", "/ reference"
+        "level, 0.1 mm", "answer", "proved", "reference", "/ reference"
     );
     LEVELS.into_iter().for_each(compare);
 }
 
-fn compare(level: u32) {
+fn compare(level: u64) {
     let mut allowance = 0;
     let number = outside::tape_allowance(level, &mut allowance);
     let answer = if number == 0 { Ok(allowance) } else { Err(number) };

@@ -24,7 +24,7 @@ const LIMITS: [&[u32]; FIELDS] = [
     &[0, 1, 7, 8, 9, 10, 11],
     &[0, 1, 8, 9],
     &[0, 1, 8, 9],
-    &[0, 1, 8, 9, 10],
+    &[0, 1, 7, 8, 9, 10, 429_496_730],
     &[199, 200, 399, 400, 900, 901],
     &[8_999, 9_000, 9_584, 9_585, 9_634, 9_635, 9_900, 9_901],
     &[0, 30, 31, 100, 101, 10_000],
@@ -69,12 +69,30 @@ pub fn low_tables(random: &mut Random) -> Given {
     given
 }
 
+/// The number of readings and these: two that agree; two with a mean of 8.5 mm; four with one of 8.33 mm and
+/// 8.67 mm; four of which the three used span 2 mm, 3 mm and 4 mm; two and four that come to 6.1 mm to 7.4 mm
+/// where ten times each, ten times their sum or twice that is held in 32 bits.
+const READINGS: [[u32; 5]; 13] = [
+    [2, 9, 9, 0, 0],
+    [2, 8, 9, 0, 0],
+    [4, 8, 10, 8, 9],
+    [4, 8, 10, 9, 9],
+    [4, 9, 6, 8, 7],
+    [4, 9, 5, 8, 6],
+    [4, 9, 4, 8, 5],
+    [2, 429_496_737, 429_496_737, 0, 0],
+    [2, 214_748_371, 214_748_371, 0, 0],
+    [2, 107_374_189, 107_374_189, 0, 0],
+    [4, 429_496_736, 429_496_738, 429_496_736, 429_496_737],
+    [4, 143_165_582, 143_165_584, 143_165_583, 143_165_583],
+    [4, 71_582_794, 71_582_796, 71_582_794, 71_582_795],
+];
+
 /// Cars of each grade, each with one field, and each two fields, at a limit.
 pub fn cars_at_limits() -> Vec<[u32; FIELDS]> {
     let mut cars = Vec::new();
     for grade in 1..=4 {
-        // two that agree; four, of which the three used span 2 mm, 3 mm and 4 mm
-        for readings in [[2, 9, 9, 0, 0], [4, 9, 6, 8, 7], [4, 9, 5, 8, 6], [4, 9, 4, 8, 5]] {
+        for readings in READINGS {
             let mut sound = SOUND;
             sound[2] = grade;
             sound[4..9].copy_from_slice(&readings);
@@ -109,7 +127,9 @@ pub fn draw(random: &mut Random, given: &Given) -> [u32; FIELDS] {
     // mm that the readings lie apart at most: three of four may span more than 3
     let spread = random.pick(&[1, 3, 5, 9]);
     let [a, b, c, d] = [(); 4].map(|()| level - random.between(0, spread).min(level - 1));
-    let highest_water = random.pick(&[0, level - 1, last]);
+    let highest_water = random.pick(&[0, level - 1, level, last]);
+    let water_level =
+        if random.one_in(4) { highest_water } else { random.between(0, highest_water) };
     let four = random.one_in(2) || a.abs_diff(b) > 1;
     let mut car = [
         random.between(1, 99_999_999),
@@ -121,7 +141,7 @@ pub fn draw(random: &mut Random, given: &Given) -> [u32; FIELDS] {
         b,
         if four { c } else { 0 },
         if four { d } else { 0 },
-        random.between(0, highest_water),
+        water_level,
         random.between(coolest, 900),
         random.between(9_000, if grade < 3 { 9_600 } else { 9_900 }),
         random.between(0, 30),

@@ -5,7 +5,7 @@ use outside::random::Random;
 use outside::{BAD_LENGTH, READINGS};
 use reference::{level, operations};
 
-use crate::tally::{handed, Tally, LENT};
+use crate::tally::{handed, Tally, LENT, LENT_64};
 
 /// Numbers at the ends of fields and of words.
 pub const ENDS: [u32; 8] =
@@ -16,11 +16,23 @@ pub fn ends_and(range: std::ops::RangeInclusive<u32>) -> impl Iterator<Item = u3
     ENDS.into_iter().chain(range)
 }
 
-/// A number out of all, one in two with the low 16 bits of a level up to 4,000 mm.
-fn draw_level(random: &mut Random) -> u32 {
-    let number = random.next() as u32;
+/// Levels in 0.1 mm at the ends of words, of 32 bits and of 64, and such as are in range where bits are cut
+/// off.
+pub fn ends_of_levels() -> impl Iterator<Item = u64> + Clone {
+    let words = ENDS.into_iter().map(u64::from);
+    let cut_off = [16, 24, 31, 32, 33, 48, 62, 63].into_iter().flat_map(|bits| {
+        [0, 9, 10, 10_000, 15_000, 36_000, 36_001].map(|level| (1 << bits) + level)
+    });
+    let largest = [0, 1, 9, 10, 9_999, 10_000, 15_000, 36_000].map(|less| u64::MAX - less);
+    words.chain(cut_off).chain(largest)
+}
+
+/// A level in 0.1 mm out of all numbers of 64 bits, or of so many as there are up to a power of two, one in
+/// two with a level up to 4,000 mm in its low 16 bits.
+pub fn draw_level(random: &mut Random) -> u64 {
+    let number = random.next() >> random.pick(&[0, 0, 31, 32, 40]);
     if random.one_in(2) {
-        number & 0xffff_0000 | random.between(0, 4_000)
+        number & !0xffff | u64::from(random.between(0, 40_000))
     } else {
         number
     }
@@ -30,7 +42,7 @@ pub fn tape_allowance(times: u64) -> Tally {
     let mut tally = Tally::new("tape_allowance");
     let mut random = Random::new(10);
     let by_lot = (0..times).map(|_| draw_level(&mut random));
-    for level in ends_and(0..=70_000).chain(by_lot) {
+    for level in (0..=70_000).chain(ends_of_levels()).chain(by_lot) {
         let mut allowance = LENT;
         let number = outside::tape_allowance(level, &mut allowance);
         tally.compare(level, (number, allowance), handed(level::tape_allowance(level), LENT));
@@ -53,14 +65,10 @@ pub fn factor_of() -> Tally {
     let mut tally = Tally::new("factor_of");
     for temperature in ends_and(199..=901) {
         for density in ends_and(8_999..=9_901) {
-            let mut factor = u64::from(LENT);
+            let mut factor = LENT_64;
             let number = outside::factor_of(density, temperature, &mut factor);
             let expected = operations::contraction(density, temperature);
-            tally.compare(
-                (density, temperature),
-                (number, factor),
-                handed(expected, u64::from(LENT)),
-            );
+            tally.compare((density, temperature), (number, factor), handed(expected, LENT_64));
         }
     }
     tally
@@ -126,14 +134,54 @@ pub fn oil_share_any_grade() -> Tally {
 
 /// Compares a number of readings and a slice of them, of any length.
 fn compare_mean(tally: &mut Tally, count: u32, readings: &[u32]) {
-    let mut level = LENT;
+    let mut level = LENT_64;
     let number = outside::mean_level(count, readings, &mut level);
     let expected = match readings.try_into() {
-        Ok(four) => handed(level::mean(count, four), LENT),
-        Err(_) => (BAD_LENGTH, LENT),
+        Ok(four) => handed(level::mean(count, four), LENT_64),
+        Err(_) => (BAD_LENGTH, LENT_64),
     };
     tally.compare((count, readings), (number, level), expected);
 }
+
+/// Readings in mm: small ones, some that span a few mm, those around which 20 times a sum of three or two
+/// and 10 times one pass 32 bits, and the largest.
+const NEAR: [u32; 20] = [
+    0,
+    1,
+    2,
+    3,
+    4,
+    1_500,
+    1_501,
+    1_502,
+    1_503,
+    1_504,
+    1_505,
+    71_582_788,
+    71_582_790,
+    107_374_183,
+    429_496_730,
+    429_496_731,
+    u32::MAX - 4,
+    u32::MAX - 3,
+    u32::MAX - 1,
+    u32::MAX,
+];
+
+/// The same, from which readings are drawn upwards.
+const LOW: [u32; 11] = [
+    0,
+    1,
+    1_500,
+    3_590,
+    71_582_784,
+    99_999_990,
+    107_374_178,
+    214_748_360,
+    429_496_725,
+    1_431_655_760,
+    u32::MAX - 9,
+];
 
 pub fn mean_level(times: u64) -> Tally {
     let mut tally = Tally::new("mean_level");
@@ -141,33 +189,15 @@ pub fn mean_level(times: u64) -> Tally {
     for length in (0..=9).filter(|&length| length != READINGS) {
         compare_mean(&mut tally, 2, &vec![7; length]);
     }
-    let near = [
-        0,
-        1,
-        2,
-        3,
-        4,
-        1_500,
-        1_501,
-        1_502,
-        1_503,
-        1_504,
-        1_505,
-        99_999_999,
-        u32::MAX - 4,
-        u32::MAX - 3,
-        u32::MAX - 1,
-        u32::MAX,
-    ];
     for count in [2, 4, 0, 1, 3, 5, u32::MAX] {
-        for place in 0..near.len().pow(4) {
+        for place in 0..NEAR.len().pow(4) {
             let readings =
-                [0, 1, 2, 3].map(|power| near[place / near.len().pow(power) % near.len()]);
+                [0, 1, 2, 3].map(|power| NEAR[place / NEAR.len().pow(power) % NEAR.len()]);
             compare_mean(&mut tally, count, &readings);
         }
     }
     for _ in 0..times {
-        let low = random.pick(&[0, 1, 1_500, 3_590, 99_999_990, u32::MAX - 9]);
+        let low = random.pick(&LOW);
         let spread = random.between(1, 9);
         let mut readings = [(); 4].map(|()| random.between(low, low + spread));
         let count = random.pick(&[2, 4]);

@@ -1,5 +1,5 @@
 //! The permitted error of a car: every error and every two errors at their limits, levels on and
-//! beside rows, masses around 100 t, cars at their limits, then cars and errors by lot.
+//! beside rows, by mm and by tenths, masses around 100 t, cars at their limits, then cars and errors by lot.
 
 use outside::random::Random;
 use outside::{BAD_LENGTH, ERRORS, FIELDS, PERMITTED};
@@ -69,6 +69,21 @@ fn at(level: u32, water_level: u32) -> [u32; FIELDS] {
     car
 }
 
+/// The sound car at a level in mm above a water level, and half a mm, a third and two thirds above that level.
+fn around(level: u32, water_level: u32) -> [[u32; FIELDS]; 4] {
+    let with = |readings: [u32; 5]| {
+        let mut car = at(level, water_level);
+        car[4..9].copy_from_slice(&readings);
+        car
+    };
+    [
+        at(level, water_level),
+        with([2, level, level + 1, 0, 0]),
+        with([4, level, level + 2, level, level + 1]),
+        with([4, level, level + 2, level + 1, level + 1]),
+    ]
+}
+
 /// One error, by its place, and none of the others.
 fn alone(place: usize, error: u32) -> [u32; ERRORS] {
     let mut errors = [0; ERRORS];
@@ -120,13 +135,15 @@ fn compare_limits(tally: &mut Tally, given: &Given) {
 /// Levels on rows and beside them, above water near them, with level errors of which some are too
 /// large.
 fn compare_levels(tally: &mut Tally, random: &mut Random) {
-    let levels = [1, 2, 3, 4, 17, 18, 19, 999, 1_000, 1_001, 1_999, 2_000, 2_001, 2_999, 3_000];
+    let levels = [0, 1, 2, 3, 4, 17, 18, 19, 999, 1_000, 1_001, 1_999, 2_000, 2_001, 2_999, 3_000];
     for rows in [&UNEVEN[..], &WIDE, &FLAT] {
         let given = with_rows(random, rows);
         for level in levels {
-            for water in levels.into_iter().chain([0]) {
+            for water in levels {
                 for error in [0, 1, 2, 9, 10, 30, 99, 100, 101] {
-                    compare(tally, &given, &at(level, water), &alone(5, error), PERMITTED);
+                    for car in around(level, water) {
+                        compare(tally, &given, &car, &alone(5, error), PERMITTED);
+                    }
                 }
             }
         }

@@ -7,7 +7,7 @@ use outside::{Tables, BAD_LENGTH, PLACES, TABLES};
 use reference::operations::{self, HandedIn};
 use reference::table::Row;
 
-use crate::figures::ENDS;
+use crate::figures::{ends_of_levels, ENDS};
 use crate::tally::{handed, Tally, LENT};
 
 /// Rows of a table, at most.
@@ -235,7 +235,7 @@ pub fn check_tables(times: u64) -> Tally {
     tally
 }
 
-fn compare_volume(tally: &mut Tally, given: &Given, car_type: u32, level: u32, water_level: u32) {
+fn compare_volume(tally: &mut Tally, given: &Given, car_type: u32, level: u64, water_level: u32) {
     let mut volume = LENT;
     let number = outside::checked_volume(given.lent(), car_type, level, water_level, &mut volume);
     let expected = if given.fits() {
@@ -247,14 +247,47 @@ fn compare_volume(tally: &mut Tally, given: &Given, car_type: u32, level: u32, w
     tally.compare((car_type, level, water_level, given), (number, volume), expected);
 }
 
-/// Levels on and beside the rows of a table, and at the ends.
-fn levels_near(given: &Given, table: usize) -> Vec<u32> {
-    let rows = &given.levels[ROWS * table..][..given.rows[table] as usize];
-    let beside = rows.iter().flat_map(|&level| [level.saturating_sub(1), level, level + 1]);
-    let mut levels: Vec<u32> = beside.chain(ENDS).collect();
+/// The levels of a table's rows, in mm.
+fn rows(given: &Given, table: usize) -> &[u32] {
+    &given.levels[ROWS * table..][..given.rows[table] as usize]
+}
+
+/// Water levels in mm on and beside the rows of a table, at the ends, and such as ten times as much is small
+/// in 32 bits.
+fn water_levels_near(given: &Given, table: usize) -> Vec<u32> {
+    let beside =
+        rows(given, table).iter().flat_map(|&level| [level.saturating_sub(1), level, level + 1]);
+    let mut levels: Vec<u32> =
+        beside.chain(ENDS).chain([429_496_729, 429_496_730, 858_993_460]).collect();
     levels.sort_unstable();
     levels.dedup();
     levels
+}
+
+/// Levels in 0.1 mm on the rows of a table and around them, by tenths and by mm, and at the ends.
+fn levels_near(given: &Given, table: usize) -> Vec<u64> {
+    let around = [-10, -7, -5, -3, -1, 0, 1, 3, 5, 7, 10];
+    let beside = rows(given, table)
+        .iter()
+        .flat_map(|&row| around.map(|tenths| (10 * u64::from(row)).saturating_add_signed(tenths)));
+    let mut levels: Vec<u64> = beside.chain(ends_of_levels()).collect();
+    levels.sort_unstable();
+    levels.dedup();
+    levels
+}
+
+/// Every level near the rows of a table above every water level there, and types that are none.
+fn compare_volumes(tally: &mut Tally, given: &Given) {
+    for table in 0..TABLES {
+        for level in levels_near(given, table) {
+            for water_level in water_levels_near(given, table) {
+                compare_volume(tally, given, given.types[table], level, water_level);
+            }
+        }
+    }
+    for car_type in (0..=5).chain([9_999, 10_000]).chain(ENDS) {
+        compare_volume(tally, given, car_type, 20, 1);
+    }
 }
 
 pub fn checked_volume(times: u64) -> Tally {
@@ -262,17 +295,8 @@ pub fn checked_volume(times: u64) -> Tally {
     let mut random = Random::new(5);
     for rows in [[2, 3, 4, 5], [2, 6, 3, 9], [5, 2, 2, 4]] {
         let given = Given::sound(&mut random, &rows);
-        given.misfits().iter().for_each(|misfit| compare_volume(&mut tally, misfit, 1, 1, 0));
-        for table in 0..TABLES {
-            for level in levels_near(&given, table) {
-                for water_level in levels_near(&given, table) {
-                    compare_volume(&mut tally, &given, given.types[table], level, water_level);
-                }
-            }
-        }
-        for car_type in (0..=5).chain([9_999, 10_000]).chain(ENDS) {
-            compare_volume(&mut tally, &given, car_type, 2, 1);
-        }
+        given.misfits().iter().for_each(|misfit| compare_volume(&mut tally, misfit, 1, 10, 0));
+        compare_volumes(&mut tally, &given);
     }
     for _ in 0..times {
         let mut given = Given::draw(&mut random);
@@ -282,10 +306,10 @@ pub fn checked_volume(times: u64) -> Tally {
         if random.one_in(8) {
             given.spoil(&mut random);
         }
-        let level = random.between(0, last + 1);
-        let highest = random.pick(&[0, level, last]);
-        let water_level = random.between(0, highest);
-        compare_volume(&mut tally, &given, car_type, level, water_level);
+        let level = random.between(0, 10 * last + 11);
+        let highest = random.pick(&[0, level / 10, level / 10 + 1, last]);
+        let water_level = if random.one_in(4) { highest } else { random.between(0, highest) };
+        compare_volume(&mut tally, &given, car_type, level.into(), water_level);
     }
     tally
 }

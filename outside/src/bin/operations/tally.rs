@@ -6,6 +6,8 @@ use std::process::exit;
 
 /// What a place holds before it is lent: no figure of any operation.
 pub const LENT: u32 = 0xa5a5_a5a5;
+/// The same of a place of 64 bits.
+pub const LENT_64: u64 = 0xa5a5_a5a5_a5a5_a5a5;
 
 /// Inputs of one operation, counted by the number handed back.
 pub struct Tally {

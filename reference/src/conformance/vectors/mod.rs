@@ -9,6 +9,8 @@ pub mod permitted;
 pub mod stick;
 pub mod tape;
 
+use std::str::FromStr;
+
 /// A vector as it stands on its line: name, question and answer, in parts between bars.
 pub trait Written: Sized + 'static {
     /// The name of the file.
@@ -89,7 +91,9 @@ fn words<T: ToString, const N: usize>(numbers: [T; N]) -> String {
 }
 
 /// The numbers of a part.
-fn numbers<const N: usize>(text: &str) -> [u32; N] {
-    let numbers: Vec<u32> = text.split(' ').map(|word| word.parse().expect("a number")).collect();
-    numbers.try_into().expect("as many numbers as there are fields")
+fn numbers<T: FromStr, const N: usize>(text: &str) -> [T; N] {
+    let parse = |word: &str| word.parse().unwrap_or_else(|_| panic!("no number: {word}"));
+    let numbers: Vec<T> = text.split(' ').map(parse).collect();
+    let Ok(numbers) = numbers.try_into() else { panic!("not {N} numbers: {text}") };
+    numbers
 }

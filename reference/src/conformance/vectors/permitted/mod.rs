@@ -4,8 +4,10 @@ mod limits;
 mod order;
 mod paper;
 mod ranges;
+mod tenths;
 mod terms;
 mod text;
+mod words;
 
 use super::Group;
 use crate::car::Car;
@@ -32,10 +34,18 @@ impl Vector {
 }
 
 fn groups() -> Vec<Group<Vector>> {
-    [paper::groups(), terms::groups(), limits::groups(), ranges::groups(), order::groups()]
-        .into_iter()
-        .flatten()
-        .collect()
+    [
+        paper::groups(),
+        terms::groups(),
+        tenths::groups(),
+        words::groups(),
+        limits::groups(),
+        ranges::groups(),
+        order::groups(),
+    ]
+    .into_iter()
+    .flatten()
+    .collect()
 }
 
 /// The errors of the paper's vectors.
@@ -76,6 +86,16 @@ fn table(car_type: u32, rows: &[(u32, u32)]) -> HandedIn {
 /// The rack card's first car at a level, above a water level, both in mm.
 const fn above(level: u32, water_level: u32) -> Car {
     Car { readings: [level, level, 0, 0], water_level, ..rack::CAR }
+}
+
+/// The rack card's first car with two readings in mm, without water.
+const fn between(first: u32, second: u32) -> Car {
+    Car { readings: [first, second, 0, 0], ..rack::CAR }
+}
+
+/// The rack card's first car with four readings in mm, without water.
+const fn of_four(readings: [u32; 4]) -> Car {
+    Car { given: 4, readings, ..rack::CAR }
 }
 
 /// The rack card's first car at a level in mm, without water.

@@ -46,9 +46,14 @@ fn level_terms() -> Vec<Vector> {
     vectors
 }
 
-/// A car of each grade on its own of four tables, which all have a row at 1,500 mm and are not equally
-/// steep there.
+/// A level in mm in one of four tables.
 fn on_table(place: usize, mean: u32) -> Vector {
+    of_four_tables(&format!("level-{}", 10 * mean), place, above(mean, 250))
+}
+
+/// A car of each grade on its own of four tables, which all have a row at 1,500 mm and are not equally
+/// steep there; readings and water level are those of the car handed in.
+pub fn of_four_tables(name: &str, place: usize, car: Car) -> Vector {
     let tables = vec![
         table(7, &[(0, 0), (700, 9_001), (1_100, 20_000), (1_500, 33_333), (2_800, 70_865)]),
         table(9_999, &[(0, 0), (3, 1), (1_000, 40_000), (1_500, 50_000), (3_300, 91_000)]),
@@ -61,9 +66,9 @@ fn on_table(place: usize, mean: u32) -> Vector {
         stick: 1 + place as u32 % 2,
         water: 10,
         impurities: 5,
-        ..above(mean, 250)
+        ..car
     };
-    let name = format!("level-{mean}-in-table-{}-of-four", place + 1);
+    let name = format!("{name}-in-table-{}-of-four", place + 1);
     Vector { name, tables, car, errors: level(25) }
 }
 

@@ -9,19 +9,20 @@ use crate::table::Row;
 
 /// What stands before the vectors.
 const HEAD: &str = "\
-# The permitted error beside the mass: document 02, request (c). Made by make_conformance.
+# The permitted error beside the mass: document 02, requests (c) and (g). Made by make_conformance.
 #
 # A case is one line. Its parts stand between bars:
 #   name
 #   tables   type: level capacity, level capacity, ...; the next table behind a semicolon (mm, dm³)
-#   car      the fourteen fields of its C line
+#   car      the fourteen fields of its C line, each a number of 32 bits
 #   errors   capacity, density, processing (0.0001 %), density temperature, oil temperature (0.1 °C),
 #            level (0.1 mm)
 # and behind them, for a car that is turned away, the number of its refusal alone; for any other:
 #   terms    L, tRho, tOil, G, dens, dtmp, S: the terms of the level and of the two temperatures, G of
 #            formula (17), the density error and tRho times G, and the sum of the squares of
 #            capacity, L, dens, dtmp, tOil and processing (0.0001 %, G in millionths)
-#   figures  those of the car's A line: number, mean level, V0, V15, gross, net (mm, 0.01 dm³, kg)
+#   figures  those of the car's A line: number, mean level, V0, V15, gross, net
+#            (0.1 mm, 0.01 dm³, kg)
 #   limit    n (0.0001 %), then yes where it is within 0.65 %, from 100,000 kg gross on 0.50 %, else no
 # Terms are shown to find a fault by; what must come out are figures and limit, or the refusal.
 # Lines that begin with # and empty lines are no cases.
@@ -62,8 +63,8 @@ impl Written for Vector {
         Self {
             name: part().to_string(),
             tables: part().split("; ").filter(|text| !text.is_empty()).map(read_table).collect(),
-            car: Car::from(numbers::<FIELDS>(part())),
-            errors: Errors::from(numbers::<ERRORS>(part())),
+            car: Car::from(numbers::<u32, FIELDS>(part())),
+            errors: Errors::from(numbers::<u32, ERRORS>(part())),
         }
     }
 }

@@ -38,5 +38,5 @@ fn tested(place: usize) -> [Vector; 2] {
 fn unused(place: usize) -> [Vector; 2] {
     let count = place as u32 - 1;
     [LEVEL + 100, u32::MAX]
-        .map(|number| apart(format!("unused-from-{place}-{number}"), count, 3).with_unused(number))
+        .map(|number| apart(format!("unused-from-{place}-{number}"), count, 30).with_unused(number))
 }

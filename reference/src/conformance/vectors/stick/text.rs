@@ -6,13 +6,14 @@ use crate::stick::StickCheck;
 
 /// What stands before the vectors.
 const HEAD: &str = "\
-# Stick against tape: document 02, request (f). Made by make_conformance.
+# Stick against tape: document 02, requests (f) and (g). Made by make_conformance.
 #
 # A case is one line. Its parts stand between bars:
 #   name
-#   given    the stick level (mm) and the number m of tape readings
+#   given    the stick level (0.1 mm, a number of 64 bits; from 10 to 36000 it is taken) and the number m
+#            of tape readings
 #   places   20 places for readings (mm); the first m are the readings, the others are not looked at
-#   on the way, the sum s of the readings, and the stick level times m, less s (mm);
+#   on the way, the sum s of the readings (mm), and the stick level times m, less 10 s (0.1 mm);
 #            a dash where the case is turned away
 #   answer   the difference of stick level and mean of the tape (0.01 mm), negative where the stick
 #            level is below; then yes where it passes, else no; then the tape allowance for the stick
@@ -35,7 +36,7 @@ impl Written for Vector {
     }
 
     fn question(&self) -> String {
-        format!("{} | {}", words([self.stick, self.count]), words(self.readings))
+        format!("{} {} | {}", self.stick, self.count, words(self.readings))
     }
 
     fn answer(&self) -> String {
@@ -50,7 +51,8 @@ impl Written for Vector {
 
     fn read<'a>(mut part: impl FnMut() -> &'a str) -> Self {
         let name = part().to_string();
-        let [stick, count] = numbers(part());
+        let [stick, count]: [u64; 2] = numbers(part());
+        let count = count.try_into().expect("a number of 32 bits");
         Self { name, stick, count, readings: numbers(part()) }
     }
 }
@@ -59,6 +61,7 @@ impl Vector {
     /// The sum of the readings, and how far the stick lies from all of them.
     fn on_the_way(&self) -> String {
         let sum: u32 = self.readings[..self.count as usize].iter().sum();
-        words([i64::from(sum), i64::from(self.stick * self.count) - i64::from(sum)])
+        let sum = i64::from(sum);
+        words([sum, self.stick as i64 * i64::from(self.count) - 10 * sum])
     }
 }

@@ -1,24 +1,29 @@
-//! Levels that are answered: those of the rack card, and the ends and the middle of every metre.
+//! Levels that are answered: those of the rack card and the one a tenth past its first, and the ends and the
+//! middle of every metre.
 
 use super::{Group, Vector};
 
-/// The levels of each metre, from the first on: its first two, one in the middle, its last two.
-const LEVELS: [[u32; 5]; 4] = [
-    [1, 2, 500, 999, 1_000],
-    [1_001, 1_002, 1_500, 1_999, 2_000],
-    [2_001, 2_002, 2_500, 2_999, 3_000],
-    [3_001, 3_002, 3_300, 3_599, 3_600],
+/// The levels of each metre, in 0.1 mm, from the first on: its first two, one a millimetre from them, two
+/// in the middle, its last two.
+const LEVELS: [[u64; 7]; 4] = [
+    [10, 11, 20, 5_000, 5_005, 9_999, 10_000],
+    [10_001, 10_002, 10_010, 15_000, 15_005, 19_999, 20_000],
+    [20_001, 20_002, 20_010, 25_000, 25_005, 29_999, 30_000],
+    [30_001, 30_002, 30_010, 33_000, 33_005, 35_999, 36_000],
 ];
 
 pub fn groups() -> Vec<Group<Vector>> {
-    let card = [1_000, 1_001].map(|level| Vector::new(format!("card-{level}"), level));
-    let of_metre = |(metre, levels): (u32, [u32; 5])| {
+    let card = [10_000, 10_001, 10_010].map(|level| Vector::new(format!("card-{level}"), level));
+    let of_metre = |(metre, levels): (u32, [u64; 7])| {
         levels.map(|level| Vector::new(format!("metre-{metre}-level-{level}"), level))
     };
     vec![
-        Group { about: "The levels of the rack card", vectors: card.to_vec() },
         Group {
-            about: "The first two levels of every metre, one in its middle, and its last two",
+            about: "The levels of the rack card, and the one a tenth past its first",
+            vectors: card.to_vec(),
+        },
+        Group {
+            about: "The first levels of every metre, two in its middle, and its last two",
             vectors: (1..).zip(LEVELS).flat_map(of_metre).collect(),
         },
     ]

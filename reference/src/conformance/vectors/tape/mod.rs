@@ -9,15 +9,15 @@ use super::Group;
 use crate::level;
 use crate::refusal::Refusal;
 
-/// A level in mm with a name that says what it tries.
+/// A level in 0.1 mm with a name that says what it tries.
 #[derive(Clone, Debug, PartialEq)]
 pub struct Vector {
     pub name: String,
-    pub level: u32,
+    pub level: u64,
 }
 
 impl Vector {
-    fn new(name: impl Into<String>, level: u32) -> Self {
+    fn new(name: impl Into<String>, level: u64) -> Self {
         Self { name: name.into(), level }
     }
 

@@ -6,12 +6,12 @@ use crate::level::metres;
 
 /// What stands before the vectors.
 const HEAD: &str = "\
-# The tape allowance: document 01, and document 02, request (e). Made by make_conformance.
+# The tape allowance: document 01, and document 02, requests (e) and (g). Made by make_conformance.
 #
 # A case is one line. Its parts stand between bars:
 #   name
-#   level    in mm
-#   on the way, the number L of whole and part metres in the level;
+#   level    in 0.1 mm, a number of 64 bits; from 10 to 36000 it is answered
+#   on the way, the number L of whole and part metres in the level, a metre of 10000;
 #            a dash where 16 turns the level away
 #   answer   the allowance 30 + 15 × (L − 1) in 0.01 mm, from 30 to 75,
 #            or the refusal, 16, which stands behind a dash and is no allowance
