@@ -1,4 +1,4 @@
--- How many bytes the lines of cars and totals take at most.
+-- How many bytes the lines of a history and its totals take at most.
 use Prim.Native.Nat.{ℕ, _+_, _*_, _≤_}
 use mathlib.Core.Path.{_≡_}
 use mathlib.Core.List.{List, [], _∷_}
@@ -13,16 +13,17 @@ use Rattle.line.specs.Writing.{lineOf}
 use Rattle.line.proofs.Bytes.{small-at, length-lineOf}
 use Rattle.table.specs.Table.{Table, tablesVerdict}
 use Rattle.car.specs.Car.{carOf}
-use Rattle.consist.specs.Train.{Train, enterAnswer, enterTrain}
-use Rattle.consist.specs.Book.{Item, car}
+use Rattle.consist.specs.Train.{Train}
+use Rattle.consist.specs.Book.{Item}
+use Rattle.consist.specs.Demand3.{answerTo, trainWith}
 use Rattle.consist.specs.Inner.{Reached}
 use Rattle.consist.proofs.Book.{reached-next, reached-four}
-use Rattle.grammar.specs.Grammar.{CarNumbers, EachCar}
+use Rattle.grammar.specs.Grammar.{TrainLine, enters, carsIn, CarNumbers, Fitting, EachLine}
 use Rattle.grammar.specs.Text.{textOf}
-use Rattle.answers.specs.Listing.{itemsOf, answerLine, linesFrom}
-use Rattle.answers.proofs.Lines.{car-fit, totals-length}
+use Rattle.answers.specs.Listing.{itemOf, itemsOf, itemLine, linesFrom}
+use Rattle.answers.proofs.Lines.{Fit, car-fit, totals-length}
 
--- the bytes of the lines of cars from a train on
+-- the bytes of the lines of items from a train on
 abbrev textFrom : Train → List Item → List ℕ
 textFrom t items = textOf (linesFrom t items)
 
@@ -30,16 +31,21 @@ textFrom t items = textOf (linesFrom t items)
 pub number-small : (ns : List ℕ) → CarNumbers ns → getD ns 0 0 ≤ largest
 number-small ns h = small-at ns 14 (h .small) 0 (omega arith)
 
+-- the line that a line behind the tables gets
+pub line-fit : (ts : List Table) → tablesVerdict ts ≡ accepts → (t : Train) (l : TrainLine) → Fitting l → Fit (itemLine (itemOf ts l) (answerTo t (itemOf ts l)))
+line-fit ts good t (enters ns) h = car-fit ts t (carOf ns) good (number-small ns h)
+
 -- room for so many cars' lines, S and the G lines
 abbrev pub room : ℕ → ℕ
 room cars = widthOf CarAccepted * cars + widthOf S + gradeCount * widthOf G
 
-pub text-most : (ts : List Table) → tablesVerdict ts ≡ accepts → (t : Train) → Reached t → (cars : List (List ℕ)) → EachCar cars
-    → length (textFrom t (itemsOf ts cars)) ≤ room (length cars)
+pub text-most : (ts : List Table) → tablesVerdict ts ≡ accepts → (t : Train) → Reached t → (history : List TrainLine) → EachLine history
+    → length (textFrom t (itemsOf ts history)) ≤ room (carsIn history)
 unfolding textOf
 text-most ts good t r [] h = omega (arith, totals-length (t .sums) (reached-four r))
-text-most ts good t r (ns ∷ cars) (h, hs) =
-    let l : Line = answerLine (getD ns 0 0) (enterAnswer ts t (carOf ns)) in
-    let f = car-fit ts t (carOf ns) good (number-small ns h) in
-    let later : List ℕ = textFrom (enterTrain ts t (carOf ns)) (itemsOf ts cars) in
-    omega (arith, length-append (lineOf l) later, length-lineOf l (f .fourteen), f .width, text-most ts good (enterTrain ts t (carOf ns)) (reached-next (car ts (carOf ns)) r) cars hs)
+text-most ts good t r (enters ns ∷ history) (h, hs) =
+    let i : Item = itemOf ts (enters ns) in
+    let l : Line = itemLine i (answerTo t i) in
+    let f = line-fit ts good t (enters ns) h in
+    let later : List ℕ = textFrom (trainWith t i) (itemsOf ts history) in
+    omega (arith, length-append (lineOf l) later, length-lineOf l (f .fourteen), f .width, text-most ts good (trainWith t i) (reached-next i r) history hs)

@@ -1,4 +1,4 @@
--- Every number of every line of an answer fits its field, and a car's line has at most the bytes of an A line.
+-- Every number of every line of an answer fits its field, and the line of a car has at most the bytes of an A line.
 use Prim.Native.Nat.{ℕ, _+_, _*_, _≤_}
 use mathlib.Core.Path.{_≡_, refl}
 use mathlib.Core.Bool.{true}

@@ -15,41 +15,41 @@ use Rattle.reading.specs.Letter.{countOf}
 use Rattle.line.proofs.Bytes.{length-lineOf}
 use Rattle.table.specs.Table.{Table, tablesVerdict}
 use Rattle.car.specs.declared.Measured.{Measured}
-use Rattle.car.specs.Car.{carOf, measured}
+use Rattle.car.specs.Car.{measured}
 use Rattle.summing.specs.declared.Totals.{Totals}
 use Rattle.summing.specs.declared.Sums.{Sums}
 use Rattle.summing.specs.Sums.{Shown, ofGrade, totalsOf, sumsOf, gradeTotals, together}
 use Rattle.consist.specs.Train.{Train, emptyTrain, enterAnswer}
-use Rattle.consist.specs.Book.{Item, car, itemNumber, loadsOfGrade}
+use Rattle.consist.specs.Book.{Item, car, loadsOfGrade}
 use Rattle.consist.specs.Demand3.{answerTo, trainWith, trainFrom, answersFrom, Close, Answered, entered, InOrder}
 use Rattle.consist.specs.Inner.{Reached}
 use Rattle.consist.proofs.Taken.{close}
 use Rattle.consist.proofs.Order.{in-order}
 use Rattle.consist.proofs.Book.{reconciled, reached-first, reached-sound, reached-four}
 use Rattle.grammar.specs.Text.{textOf}
-use Rattle.grammar.specs.Grammar.{EachCar}
+use Rattle.grammar.specs.Grammar.{TrainLine, EachLine}
 use Rattle.grammar.specs.Sheet.{SheetRead, refusedAt, whole, sheetOf}
 use Rattle.grammar.specs.Proper.{Proper}
 use Rattle.grammar.specs.ByGrammar.{ReadByGrammar}
 use Rattle.grammar.proofs.Turns.{sheet-proper}
 use Rattle.grammar.proofs.ByGrammar.{by-grammar}
-use Rattle.answers.specs.Listing.{itemsOf, answerLine, totalsLine, gradeLines, totalsLines, sheetRefusedLine, linesFrom, answerLines, sheetNumber, leastBuffer, replyOf, afterAnswer}
+use Rattle.answers.specs.Listing.{itemOf, itemsOf, itemLine, totalsLine, gradeLines, totalsLines, sheetRefusedLine, linesFrom, answerLines, sheetNumber, leastBuffer, replyOf, afterAnswer}
 use Rattle.answers.specs.Reconciled.{Small, linesWith, EachAnswered, loadsOf, shownOf, totalsShown, gradesShown, SumOf, SheetReconciled}
 use Rattle.answers.specs.Paper.{PaperExample}
-use Rattle.answers.proofs.Lines.{Fit, car-fit, all-fit, sheet-refused-fit}
+use Rattle.answers.proofs.Lines.{Fit, all-fit, sheet-refused-fit}
 use Rattle.answers.proofs.AgainstPaper.{paper-example}
-use Rattle.answers.proofs.Lengths.{number-small, text-most}
+use Rattle.answers.proofs.Lengths.{line-fit, text-most}
 
-lines-small : (ts : List Table) → tablesVerdict ts ≡ accepts → (t : Train) (cars : List (List ℕ)) → EachCar cars → Each Small (totalsLines (trainFrom t (itemsOf ts cars) .sums))
-    → Each Small (linesFrom t (itemsOf ts cars))
+lines-small : (ts : List Table) → tablesVerdict ts ≡ accepts → (t : Train) (history : List TrainLine) → EachLine history → Each Small (totalsLines (trainFrom t (itemsOf ts history) .sums))
+    → Each Small (linesFrom t (itemsOf ts history))
 lines-small ts good t [] h s = s
-lines-small ts good t (ns ∷ cars) (h, hs) s =
-    (car-fit ts t (carOf ns) good (number-small ns h) .small, lines-small ts good (trainWith t (car ts (carOf ns))) cars hs s)
+lines-small ts good t (l ∷ history) (h, hs) s =
+    (line-fit ts good t l h .small, lines-small ts good (trainWith t (itemOf ts l)) history hs s)
 
 -- the lines are those of the answers, then those of the train after the list
 lines-of-answers : (t : Train) (items : List Item) → linesFrom t items ≡ linesWith items (answersFrom t items) ++ totalsLines (trainFrom t items .sums)
 lines-of-answers t [] = refl
-lines-of-answers t (i ∷ items) = ap (λ (ls : List Line). answerLine (itemNumber i) (answerTo t i) ∷ ls) (lines-of-answers (trainWith t i) items)
+lines-of-answers t (i ∷ items) = ap (λ (ls : List Line). itemLine i (answerTo t i) ∷ ls) (lines-of-answers (trainWith t i) items)
 
 -- totals that are those of the grades together, as lines
 sum-of : (ss : List Shown) → sumsOf ss .all ≡ together (sumsOf ss .grades) → SumOf (totalsLine (sumsOf ss .all)) (gradeLines 1 (sumsOf ss .grades))
@@ -104,8 +104,8 @@ sheet-reconciled bytes (refusedAt line number) p = record {
   listed = tt;
   small = (sheet-refused-fit line number (omega (arith, p .lines)) (omega (arith, p .most)) .small, tt);
 }
-sheet-reconciled bytes (whole ts cars) p =
-    let items = itemsOf ts cars in
+sheet-reconciled bytes (whole ts history) p =
+    let items = itemsOf ts history in
     let r = reconciled items in
     let reached : Reached (trainFrom emptyTrain items) = record { items = items; is = refl } in
     record {
@@ -117,14 +117,14 @@ sheet-reconciled bytes (whole ts cars) p =
         close = each-answered Close close emptyTrain items;
         order = each-answered InOrder in-order emptyTrain items;
       };
-      small = lines-small ts (p .accepted) emptyTrain cars (p .each) (each-small (totalsLines (trainFrom emptyTrain items .sums)) (all-fit (reached-sound reached) (reached-four reached)));
+      small = lines-small ts (p .accepted) emptyTrain history (p .each) (each-small (totalsLines (trainFrom emptyTrain items .sums)) (all-fit (reached-sound reached) (reached-four reached)));
     }
 
 -- no answer is longer than the least buffer
 pub text-fits : (bytes : ℕ) (r : SheetRead) → Proper bytes r → length (textOf (answerLines r)) ≤ leastBuffer
 unfolding textOf
 text-fits bytes (refusedAt line number) p = rw append-nil (omega (arith, length-lineOf (sheetRefusedLine line number) refl))
-text-fits bytes (whole ts cars) p = omega (arith, text-most ts (p .accepted) emptyTrain reached-first cars (p .each), p .sixty)
+text-fits bytes (whole ts history) p = omega (arith, text-most ts (p .accepted) emptyTrain reached-first history (p .each), p .sixty)
 
 -- The three answers of `answer_sheet`.
 

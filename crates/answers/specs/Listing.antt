@@ -1,10 +1,10 @@
--- Answers written: the Z line of a refused sheet, or a line for each car in sheet order, the S line and the four G lines; refusal 1 of document 01.
+-- Answers written: the Z line of a refused sheet, or a line for each line behind the tables in sheet order, the S line and the four G lines; refusal 1 of document 01.
 use Prim.Native.Nat.{ℕ, _+_, _*_}
 use mathlib.Core.Bool.{cond}
-use mathlib.Core.List.{List, [], _∷_}
+use mathlib.Core.List.{List, [], _∷_, map}
 use lib.ListN.{length}
 use lib.Dec.{ltb}
-use Rattle.base.specs.Limits.{mostCars, gradeCount}
+use Rattle.base.specs.Limits.{mostCarLines, gradeCount}
 use Rattle.base.specs.Answer.{Answer, figures, refusal}
 use Rattle.base.specs.Buffer.{put}
 use Rattle.reading.specs.declared.letter.Letter.the-variants.{CarAccepted, CarRefused, Totals as S, GradeTotals as G, SheetRefused}
@@ -15,18 +15,21 @@ use Rattle.car.specs.Car.{carOf}
 use Rattle.summing.specs.declared.Totals.{Totals}
 use Rattle.summing.specs.declared.Sums.{Sums}
 use Rattle.consist.specs.Train.{Train, emptyTrain}
-use Rattle.consist.specs.Book.{Item, car, itemNumber}
+use Rattle.consist.specs.Book.{Item, car}
 use Rattle.consist.specs.Demand3.{answerTo, trainWith}
+use Rattle.grammar.specs.Grammar.{TrainLine, enters}
 use Rattle.grammar.specs.Text.{lineWith, textOf}
 use Rattle.grammar.specs.Sheet.{SheetRead, refusedAt, whole, sheetOf}
 use Rattle.answers.specs.declared.Reply.{Reply}
 
--- The cars of a sheet.
+-- The lines behind a sheet's tables.
 
--- the C lines as a list of cars on the sheet's tables
-abbrev pub itemsOf : List Table → List (List ℕ) → List Item
-itemsOf ts [] = []
-itemsOf ts (ns ∷ cars) = car ts (carOf ns) ∷ itemsOf ts cars
+-- a C line is a car on the sheet's tables
+abbrev pub itemOf : List Table → TrainLine → Item
+itemOf ts (enters numbers) = car ts (carOf numbers)
+
+abbrev pub itemsOf : List Table → List TrainLine → List Item
+itemsOf ts history = map (itemOf ts) history
 
 -- The lines of an answer.
 
@@ -34,6 +37,10 @@ itemsOf ts (ns ∷ cars) = car ts (carOf ns) ∷ itemsOf ts cars
 abbrev pub answerLine : ℕ → Answer → Line
 answerLine number (figures values) = lineWith CarAccepted values
 answerLine number (refusal n) = lineWith CarRefused (number ∷ n ∷ [])
+
+-- the line of an item that got this answer
+abbrev pub itemLine : Item → Answer → Line
+itemLine (car ts c) a = answerLine (c .number) a
 
 -- S: accepted cars, gross total, net total
 abbrev pub totalsLine : Totals → Line
@@ -52,28 +59,28 @@ gradeLines g (t ∷ ts) = gradeLine g t ∷ gradeLines (g + 1) ts
 abbrev pub sheetRefusedLine : ℕ → ℕ → Line
 sheetRefusedLine line number = lineWith SheetRefused (line ∷ number ∷ [])
 
--- what stands behind the cars' lines: S, then G for grades 1 to 4
+-- what stands behind the items' lines: S, then G for grades 1 to 4
 abbrev pub totalsLines : Sums → List Line
 totalsLines s = totalsLine (s .all) ∷ gradeLines 1 (s .grades)
 
--- a line for each car, entered one after another from a train, then its totals
+-- a line for each item, handed in one after another from a train, then its totals
 abbrev pub linesFrom : Train → List Item → List Line
 linesFrom t [] = totalsLines (t .sums)
-linesFrom t (i ∷ is) = answerLine (itemNumber i) (answerTo t i) ∷ linesFrom (trainWith t i) is
+linesFrom t (i ∷ is) = itemLine i (answerTo t i) ∷ linesFrom (trainWith t i) is
 
 abbrev pub answerLines : SheetRead → List Line
 answerLines (refusedAt line number) = sheetRefusedLine line number ∷ []
-answerLines (whole ts cars) = linesFrom emptyTrain (itemsOf ts cars)
+answerLines (whole ts history) = linesFrom emptyTrain (itemsOf ts history)
 
 -- The answer.
 
 abbrev pub sheetNumber : SheetRead → ℕ
 sheetNumber (refusedAt line number) = number
-sheetNumber (whole ts cars) = 0
+sheetNumber (whole ts history) = 0
 
 -- the longest answer, in bytes, and so the least buffer
 abbrev pub leastBuffer : ℕ
-leastBuffer = mostCars * widthOf CarAccepted + widthOf S + gradeCount * widthOf G
+leastBuffer = mostCarLines * widthOf CarAccepted + widthOf S + gradeCount * widthOf G
 
 -- 1: the answer buffer is shorter; the length is 0 and the number 1 is handed back
 unfoldable pub replyOf : List ℕ → ℕ → Reply

@@ -17,11 +17,11 @@ use Rattle.car.specs.Measured.{gross, net}
 use Rattle.car.specs.Car.{measured}
 use Rattle.summing.specs.Sums.{Shown, shownMass, ofGrade}
 use Rattle.consist.specs.Train.{emptyTrain}
-use Rattle.consist.specs.Book.{Item, car, itemNumber, Load, loads, loadsOfGrade, bookFrom}
+use Rattle.consist.specs.Book.{Item, car, Load, loads, loadsOfGrade, bookFrom}
 use Rattle.consist.specs.Demand3.{Close, answersFrom, shown, Reconciled, InOrder}
 use Rattle.grammar.specs.Sheet.{SheetRead, refusedAt, whole}
 use Rattle.grammar.specs.Text.{lineWith}
-use Rattle.answers.specs.Listing.{itemsOf, answerLine, linesFrom, answerLines}
+use Rattle.answers.specs.Listing.{itemsOf, itemLine, linesFrom, answerLines}
 
 -- no number of the line exceeds 99,999,999, so that no field is cut
 abbrev pub Small : Line → Type 0
@@ -31,7 +31,7 @@ Small l = smallTo (l .numbers) (countOf (l .letter)) ≡ true
 abbrev pub linesWith : List Item → List Answer → List Line
 linesWith [] answers = []
 linesWith (i ∷ is) [] = []
-linesWith (i ∷ is) (a ∷ answers) = answerLine (itemNumber i) a ∷ linesWith is answers
+linesWith (i ∷ is) (a ∷ answers) = itemLine i a ∷ linesWith is answers
 
 -- what holds of each item, its tables and what is measured of it, with the answer it got
 abbrev pub EachAnswered : (List Table → Measured → Answer → Type 0) → List Item → List Answer → Type 0
@@ -77,7 +77,7 @@ pub record Listed (ts : List Table) (items : List Item) : Type 0 where
 
 abbrev pub SheetListed : SheetRead → Type 0
 SheetListed (refusedAt line number) = Unit {0}
-SheetListed (whole ts cars) = Listed ts (itemsOf ts cars)
+SheetListed (whole ts history) = Listed ts (itemsOf ts history)
 
 -- what holds of the answer to every sheet: it is listed so, and every number shown fits its field
 pub record SheetReconciled (r : SheetRead) : Type 0 where

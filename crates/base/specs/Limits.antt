@@ -5,12 +5,15 @@ use Prim.Native.Nat.{ℕ, _*_}
 abbrev pub largest : ℕ
 largest = 99_999_999
 
--- the most tables of a sheet, the most rows of a table, the most cars of a sheet, which is also the most numbers that a train holds
+-- the most tables of a sheet, the most rows of a table, the most C lines of a sheet, and the most numbers that a train holds
 abbrev pub mostTables : ℕ
 mostTables = 4
 
 abbrev pub mostRows : ℕ
 mostRows = 400
+
+abbrev pub mostCarLines : ℕ
+mostCarLines = 60
 
 abbrev pub mostCars : ℕ
 mostCars = 60

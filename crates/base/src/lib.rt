@@ -12,6 +12,7 @@ pub use limits::GRADES;
 pub use limits::GREATEST_CAPACITY;
 pub use limits::HIGHEST_LEVEL;
 pub use limits::LARGEST;
+pub use limits::MOST_CAR_LINES;
 pub use limits::MOST_CARS;
 pub use limits::MOST_ROWS;
 pub use limits::MOST_TABLES;

@@ -1,8 +1,8 @@
 -- Laws of entering a car: when a train takes one more, and what the car's own answer makes of the train.
-use Prim.Native.Nat.{ℕ, suc, _+_, _<_}
-use mathlib.Core.Path.{_≡_, refl, ap, sym, _∙_}
+use Prim.Native.Nat.{ℕ, _<_}
+use mathlib.Core.Path.{_≡_, refl, ap, ap₂, sym, _∙_}
 use mathlib.Core.Bool.{true, false, not, _||_}
-use mathlib.Core.List.{List, [], _∷_}
+use mathlib.Core.List.{List}
 use lib.Dec.{ltb}
 use lib.ListN.{length}
 use borrow.Author.Tests.{le-ltb, leb-false, ltb-false, not-false}
@@ -18,12 +18,11 @@ use Rattle.car.specs.declared.CarAnswer.the-variants.{Accepted, Refused}
 use Rattle.car.specs.Measured.{gross, net, mass, sixFigures}
 use Rattle.car.specs.Car.{measured, carTests, figuresOf, ownAnswer, carTold}
 use Rattle.car.proofs.Accepted.{passed-car, grade-known}
-use Rattle.summing.specs.declared.Totals.{Totals}
-use Rattle.summing.specs.Sums.{Shown, mostInTrain, together, sameTotals, gradesWith}
-use Rattle.consist.specs.Train.{Train, unsound, full, trainTests, admissionTests, enterTests, enterAnswer, carShown, afterBy, enterTrain}
-use Rattle.summing.specs.Inner.{Sound, Graded}
+use Rattle.summing.specs.Sums.{mostInTrain, together, sameTotals, withCar}
+use Rattle.consist.specs.Train.{Train, unsound, full, trainTests, admissionTests, enterTests, enterAnswer, withMasses, carShown, afterBy, enterTrain}
+use Rattle.summing.specs.Inner.{Sound, Graded, shownAs}
 use Rattle.consist.specs.Inner.{placeTests, withAnswer}
-use Rattle.summing.proofs.Adding.{same-totals, totals-same}
+use Rattle.summing.proofs.Adding.{same-totals, totals-same, length-changed}
 
 -- A train is sound where 9 does not apply for its limits or sums.
 
@@ -104,7 +103,7 @@ module _ (ts : List Table) (t : Train) (c : Car) where
         by-answer (Accepted f) accepts e =
             let g : f .gross ≡ mass gross ts (measured c) = cc in
             let n : f .net ≡ mass net ts (measured c) = cc in
-            simp (g, n)
+            ap₂ (λ (x y : ℕ). withMasses t (c .number) (shownAs (c .grade) x y)) g n
         by-answer (Accepted f) (refuses k) e = never (cc)
         by-answer (Refused n) accepts e = never (cc)
         by-answer (Refused n) (refuses k) e = refl
@@ -117,10 +116,6 @@ graded ts c (Accepted f) good e =
     inside 1 gradeCount (c .grade) (grade-known ts (measured c) (passed-car c good (answer-figures (first (carTests ts c)) e .0) .early))
 
 -- a car entered leaves the grades four
-with-length : (g : ℕ) (s : Shown) (ts : List Totals) → length (gradesWith g s ts) ≡ length ts
-with-length g s [] = refl
-with-length g s (t ∷ ts) = ap suc (with-length (g + 1) s ts)
-
 pub entered-four : (ts : List Table) (t : Train) (c : Car) → length (t .sums .grades) ≡ gradeCount → length (enterTrain ts t c .sums .grades) ≡ gradeCount
 unfolding enterTrain
 entered-four ts t c e = by-verdicts (first (admissionTests ts t c)) (first (carTests ts c))
@@ -128,4 +123,4 @@ entered-four ts t c e = by-verdicts (first (admissionTests ts t c)) (first (carT
     by-verdicts : (admission own : Verdict) → length (afterBy admission own ts t c .sums .grades) ≡ gradeCount
     by-verdicts (refuses k) own = e
     by-verdicts accepts (refuses k) = e
-    by-verdicts accepts accepts = with-length 1 (carShown ts c) (t .sums .grades) ∙ e
+    by-verdicts accepts accepts = length-changed (withCar (carShown ts c)) (c .grade) 1 (t .sums .grades) ∙ e

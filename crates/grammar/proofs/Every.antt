@@ -10,11 +10,11 @@ use lib.ListN.{length, take, drop, length-append, length-drop}
 use lib.Seq.{append-snoc, take-at, take-all, drop-at, drop-drop}
 use borrow.Author.Tests.{eqb-true, ltb-false, eq-eqb, ne-eqb, lt-ltb, lt-leb, le-leb, not-false}
 use Rattle.base.specs.Answer.{accepts, first}
-use Rattle.base.specs.Limits.{largest, mostCars, highestLevel, greatestCapacity}
+use Rattle.base.specs.Limits.{largest, mostCarLines, highestLevel, greatestCapacity}
 use Rattle.base.proofs.Choice.{same, neither}
 use Rattle.base.proofs.Lists.{map-append}
 use Rattle.base.proofs.Numbers.{inside}
-use Rattle.reading.specs.declared.letter.Letter.the-variants.{End as E}
+use Rattle.reading.specs.declared.letter.Letter.the-variants.{Car as C, End as E}
 use Rattle.reading.specs.declared.letter.Line.{Line}
 use Rattle.reading.specs.declared.Found.the-variants.{Is}
 use Rattle.reading.specs.declared.Reading.the-variants.{Read}
@@ -27,12 +27,12 @@ use Rattle.line.proofs.RoundTrip.{bytes-read}
 use Rattle.table.specs.Table.{Row, Table, tableLineBad, firstRowBad, laterRowBad, rowBad, laterTests, rowsTests}
 use Rattle.table.proofs.Table.{passing, table-line-good}
 use Rattle.grammar.specs.Text.{textOf}
-use Rattle.grammar.specs.Grammar.{tLine, rLine, cLine, eLine, sheetLines, sheetText, CarNumbers, EachCar, WholeSheet, tablesBegun, linesBegun, Passed, Begun, kinds}
+use Rattle.grammar.specs.Grammar.{tLine, rLine, cLine, eLine, TrainLine, enters, asLine, carsIn, sheetLines, sheetText, CarNumbers, EachLine, WholeSheet, tablesBegun, linesBegun, Passed, Begun, kinds}
 use Rattle.grammar.specs.Faults.{lineFaults}
 use Rattle.grammar.specs.Sheet.{longest, SheetRead, refusedAt, whole, State, over, past, dueBy, dueOf, carLine, endLine, byLetter, stepOf, readFrom, start, sheetOf}
 use Rattle.grammar.specs.ByGrammar.{Fault, Refusal, tooLong, fault, bytesAfter}
 use Rattle.grammar.specs.Inner.{Sound}
-use Rattle.grammar.proofs.Rules.{with-row-last, last-rows-last, table-taken, row-taken, car-taken}
+use Rattle.grammar.proofs.Rules.{with-row-last, last-rows-last, cars-more, table-taken, row-taken, car-taken}
 use Rattle.grammar.proofs.Passed.{verdict-passed}
 use Rattle.grammar.proofs.Steps.{both-first, both-last, step-read}
 use Rattle.grammar.proofs.Turns.{sheet-long, sheet-short, sound-start, went-on, is-over}
@@ -76,24 +76,24 @@ row-good (before ∷ rows) row todo e = later-good before rows row todo (passing
 car-read : (car : List ℕ) → CarNumbers car → readAs (cLine car) .numbers ≡ car
 car-read car h = append-nil (take mostFields (car ++ [])) ∙ ap (λ (x : List ℕ). take mostFields x) (append-nil car) ∙ take-all mostFields car (omega (arith, h .fourteen))
 
--- Where the reading of s stands: before the lines `more` and the bytes `tail`, with tables and cars of which the last table lacks `owed` rows. The lines from
+-- Where the reading of s stands: before the lines `more` and the bytes `tail`, with tables and history of which the last table lacks `owed` rows. The lines from
 -- there on bring what the whole sheet does; behind `more` the line numbered `end` is due.
 
 module _ (s tail : List ℕ) (end : ℕ) where
-  pub record At (owed : ℕ) (ts : List Table) (cars : List (List ℕ)) (more : List Line) : Type 0 where
+  pub record At (owed : ℕ) (ts : List Table) (history : List TrainLine) (more : List Line) : Type 0 where
     pub at : ℕ
     pub line : ℕ
-    pub sound : Sound (length s) at line owed ts (length cars)
+    pub sound : Sound (length s) at line owed ts (carsIn history)
     pub rest : drop at s ≡ textOf more ++ tail
     pub count : line + length more ≡ end
-    pub same : readFrom s (record { at = at; line = line; owed = owed; tables = ts; cars = cars }) ≡ readFrom s start
+    pub same : readFrom s (record { at = at; line = line; owed = owed; tables = ts; cars = carsIn history; history = history }) ≡ readFrom s start
 
-  abbrev pub here : {owed : ℕ} {ts : List Table} {cars : List (List ℕ)} {more : List Line} → At owed ts cars more → State
-  here {owed = owed} {ts = ts} {cars = cars} a = record { at = a .at; line = a .line; owed = owed; tables = ts; cars = cars }
+  abbrev pub here : {owed : ℕ} {ts : List Table} {history : List TrainLine} {more : List Line} → At owed ts history more → State
+  here {owed = owed} {ts = ts} {history = history} a = record { at = a .at; line = a .line; owed = owed; tables = ts; cars = carsIn history; history = history }
 
   -- a line that may come next
-  module _ (owed : ℕ) (ts : List Table) (cars : List (List ℕ)) (l : Line) (more : List Line) (a : At owed ts cars (l ∷ more)) (fits : Fits l)
-      (due : letterOf (byteOf (l .letter)) (dueBy owed (length ts) (length cars)) ≡ Is (l .letter)) where
+  module _ (owed : ℕ) (ts : List Table) (history : List TrainLine) (l : Line) (more : List Line) (a : At owed ts history (l ∷ more)) (fits : Fits l)
+      (due : letterOf (byteOf (l .letter)) (dueBy owed (length ts) (carsIn history)) ≡ Is (l .letter)) where
     rest-here : drop (a .at) s ≡ lineOf l ++ (textOf more ++ tail)
     unfolding textOf
     rest-here = a .rest ∙ append-assoc (lineOf l) (textOf more) tail
@@ -105,10 +105,10 @@ module _ (s tail : List ℕ) (end : ℕ) where
     read-on = step-read s (here a) (readAs l) (sym (bytes-read s (a .at) (dueOf (here a)) l due (fits .small) (fits .fourteen) bytes)) (Read (l .letter)) refl
 
     -- it is taken, and the reading goes on behind it
-    go-on : (owed′ : ℕ) (ts′ : List Table) (cars′ : List (List ℕ)) → past (l .letter) (here a) owed′ ts′ cars′ ≡ byLetter (length s) (here a) (l .letter) (readAs l .numbers)
-        → At owed′ ts′ cars′ more
-    go-on owed′ ts′ cars′ e =
-        let w = went-on s (here a) (past (l .letter) (here a) owed′ ts′ cars′) (e ∙ read-on) (a .sound) _ refl in
+    go-on : (owed′ : ℕ) (ts′ : List Table) (history′ : List TrainLine) → past (l .letter) (here a) owed′ ts′ (carsIn history′) history′ ≡ byLetter (length s) (here a) (l .letter) (readAs l .numbers)
+        → At owed′ ts′ history′ more
+    go-on owed′ ts′ history′ e =
+        let w = went-on s (here a) (past (l .letter) (here a) owed′ ts′ (carsIn history′) history′) (e ∙ read-on) (a .sound) _ refl in
         record {
           at = a .at + widthOf (l .letter);
           line = a .line + 1;
@@ -167,48 +167,50 @@ module _ (s tail : List ℕ) (end : ℕ) where
       let c = rows-on ts (record { kind = t .kind; rows = [] }) (t .rows) (length (t .rows)) 0 more′ (omega arith) (p .1) b in
       rw (append-snoc ts t (u ∷ todo)) at (tables-on (ts ++ (t ∷ [])) (u ∷ todo) owed more (rw (map-append (λ (v : Table). v .kind) ts (t ∷ [])) (p .2)) c)
 
-  -- Cars.
+  -- Lines behind the tables.
 
-  car-on : (ts : List Table) (cars : List (List ℕ)) (car : List ℕ) (more : List Line) → 0 < length ts → length cars < mostCars → CarNumbers car → At 0 ts cars (cLine car ∷ more)
-      → At 0 ts (cars ++ (car ∷ [])) more
+  car-on : (ts : List Table) (history : List TrainLine) (car : List ℕ) (more : List Line) → 0 < length ts → carsIn history < mostCarLines → CarNumbers car → At 0 ts history (cLine car ∷ more)
+      → At 0 ts (history ++ (enters car ∷ [])) more
   unfolding letterOf
-  car-on ts cars car more some few h a =
-      go-on 0 ts cars (cLine car) more a
+  car-on ts history car more some few h a =
+      go-on 0 ts history (cLine car) more a
       (record { fourteen = car-places car h; small = ap (λ (x : List ℕ). smallTo x mostFields) (append-nil car) ∙ h .small })
       (simp (lt-ltb 0 (length ts) some))
-      0 ts (cars ++ (car ∷ []))
-      (car-taken (here a) car (cars ++ (car ∷ [])) (lt-leb mostCars (length cars) few) refl ∙ ap (carLine (here a)) (sym (car-read car h)))
+      0 ts (history ++ (enters car ∷ []))
+      (ap (λ (n : ℕ). past C (here a) 0 ts n (history ++ (enters car ∷ []))) (cars-more history car)
+      ∙ car-taken (here a) car (history ++ (enters car ∷ [])) (lt-leb mostCarLines (carsIn history) few) refl
+      ∙ ap (carLine (here a)) (sym (car-read car h)))
 
-  cars-on : (ts : List Table) (cars todo : List (List ℕ)) (more : List Line) → 0 < length ts → length cars + length todo ≤ mostCars → EachCar todo → At 0 ts cars (map cLine todo ++ more)
-      → At 0 ts (cars ++ todo) more
-  cars-on ts cars [] more some few h a = rw (append-nil cars) a
-  cars-on ts cars (car ∷ todo) more some few (h, hs) a =
-      rw (append-snoc cars car todo) at (cars-on ts (cars ++ (car ∷ [])) todo more some (rw length-append (omega arith)) hs
-      (car-on ts cars car (map cLine todo ++ more) some (omega arith) h a))
+  history-on : (ts : List Table) (history todo : List TrainLine) (more : List Line) → 0 < length ts → carsIn history + carsIn todo ≤ mostCarLines → EachLine todo → At 0 ts history (map asLine todo ++ more)
+      → At 0 ts (history ++ todo) more
+  history-on ts history [] more some few h a = rw (append-nil history) a
+  history-on ts history (enters car ∷ todo) more some few (h, hs) a =
+      rw (append-snoc history (enters car) todo) at (history-on ts (history ++ (enters car ∷ [])) todo more some (omega (arith, cars-more history car)) hs
+      (car-on ts history car (map asLine todo ++ more) some (omega arith) h a))
 
   -- The beginning of a sheet, and its end.
 
-  pub begun-on : (ts : List Table) (owed : ℕ) (cars : List (List ℕ)) (more : List Line) → Begun ts owed cars → At 0 [] [] (linesBegun ts owed cars ++ more) → At owed ts cars more
+  pub begun-on : (ts : List Table) (owed : ℕ) (history : List TrainLine) (more : List Line) → Begun ts owed history → At 0 [] [] (linesBegun ts owed history ++ more) → At owed ts history more
   begun-on ts owed [] more b a = tables-on [] ts owed more (b .passed) (rw (append-nil (tablesBegun ts owed)) at a)
-  begun-on ts owed (car ∷ cars) more b a =
+  begun-on ts owed (line ∷ history) more b a =
       let h = b .behind (omega arith) in
-      let c = tables-on [] ts owed (map cLine (car ∷ cars) ++ more) (b .passed) (rw (append-assoc (tablesBegun ts owed) (map cLine (car ∷ cars)) more) at a) in
-      rw (h .0) (cars-on ts [] (car ∷ cars) more (h .1) (omega (arith, b .sixty)) (b .each) (rw (h .0) at c))
+      let c = tables-on [] ts owed (map asLine (line ∷ history) ++ more) (b .passed) (rw (append-assoc (tablesBegun ts owed) (map asLine (line ∷ history)) more) at a) in
+      rw (h .0) (history-on ts [] (line ∷ history) more (h .1) (omega (arith, b .sixty)) (b .each) (rw (h .0) at c))
 
   -- whole, or bytes follow
-  pub end-read : (ts : List Table) (cars : List (List ℕ)) → 0 < length ts → length cars ≤ mostCars → At 0 ts cars (eLine (length cars) ∷ [])
-      → readFrom s start ≡ cond (eqb (length tail) 0) (whole ts cars) (refusedAt end 9)
+  pub end-read : (ts : List Table) (history : List TrainLine) → 0 < length ts → carsIn history ≤ mostCarLines → At 0 ts history (eLine (carsIn history) ∷ [])
+      → readFrom s start ≡ cond (eqb (length tail) 0) (whole ts history) (refusedAt end 9)
   unfolding letterOf endLine smallTo textOf
-  end-read ts cars some few a =
-      let text : List ℕ = lineOf (eLine (length cars)) in
+  end-read ts history some few a =
+      let text : List ℕ = lineOf (eLine (carsIn history)) in
       let left : length s - a .at ≡ widthOf E + length tail =
-      sym (length-drop (a .at) s) ∙ ap length (a .rest ∙ ap (λ (x : List ℕ). x ++ tail) (append-nil text)) ∙ length-append text tail ∙ ap (λ (n : ℕ). n + length tail) (length-lineOf (eLine (length cars)) refl) in
+      sym (length-drop (a .at) s) ∙ ap length (a .rest ∙ ap (λ (x : List ℕ). x ++ tail) (append-nil text)) ∙ length-append text tail ∙ ap (λ (n : ℕ). n + length tail) (length-lineOf (eLine (carsIn history)) refl) in
       let count : a .line + 1 ≡ end = a .count in
-      end-on 0 ts cars (eLine (length cars)) [] a
-      (record { fourteen = refl; small = simp (le-leb (length cars) largest (omega arith)) })
+      end-on 0 ts history (eLine (carsIn history)) [] a
+      (record { fourteen = refl; small = simp (le-leb (carsIn history) largest (omega arith)) })
       (simp (lt-ltb 0 (length ts) some))
-      (cond (eqb (a .at + widthOf E) (length s)) (whole ts cars) (refusedAt (a .line + 1) 9))
-      (sym (simp (eq-eqb (length cars) (length cars) refl)))
+      (cond (eqb (a .at + widthOf E) (length s)) (whole ts history) (refusedAt (a .line + 1) 9))
+      (sym (simp (eq-eqb (carsIn history) (carsIn history) refl)))
       ∙ ⊎-elim
       (λ (z : length tail ≡ 0). simp (eq-eqb (length tail) 0 z, eq-eqb (a .at + widthOf E) (length s) (omega (arith, a .sound .within))))
       (λ (z : length tail ≡ 0 → ⊥). simp (ne-eqb (length tail) 0 z, ne-eqb (a .at + widthOf E) (length s) (λ e. z (omega (arith, a .sound .within))), count))
@@ -219,41 +221,41 @@ module _ (s tail : List ℕ) where
   first-line ls end e n = record { at = 0; line = 1; sound = sound-start (length s) start refl; rest = e; count = n; same = refl }
 
   -- the lines of a whole sheet
-  pub sheet-read : (ts : List Table) (cars : List (List ℕ)) → WholeSheet ts cars → s ≡ sheetText ts cars ++ tail → length s ≤ longest
-      → sheetOf s ≡ cond (eqb (length tail) 0) (whole ts cars) (refusedAt (1 + length (sheetLines ts cars)) 9)
-  sheet-read ts cars w e short =
-      let begun : Begun ts 0 cars = record { passed = verdict-passed [] ts (w .accepted); behind = λ _. (refl, w .some); sixty = w .sixty; each = w .each } in
-      let lines : sheetLines ts cars ≡ linesBegun ts 0 cars ++ (eLine (length cars) ∷ []) =
-      sym (append-assoc (tablesBegun ts 0) (map cLine cars) (eLine (length cars) ∷ []) ∙ ap (λ (x : List Line). x ++ (map cLine cars ++ (eLine (length cars) ∷ []))) (begun-all ts)) in
-      let end : ℕ = 1 + length (sheetLines ts cars) in
-      let a = first-line (linesBegun ts 0 cars ++ (eLine (length cars) ∷ [])) end (rw lines at e) (ap (λ (x : List Line). 1 + length x) (sym lines)) in
+  pub sheet-read : (ts : List Table) (history : List TrainLine) → WholeSheet ts history → s ≡ sheetText ts history ++ tail → length s ≤ longest
+      → sheetOf s ≡ cond (eqb (length tail) 0) (whole ts history) (refusedAt (1 + length (sheetLines ts history)) 9)
+  sheet-read ts history w e short =
+      let begun : Begun ts 0 history = record { passed = verdict-passed [] ts (w .accepted); behind = λ _. (refl, w .some); sixty = w .sixty; each = w .each } in
+      let lines : sheetLines ts history ≡ linesBegun ts 0 history ++ (eLine (carsIn history) ∷ []) =
+      sym (append-assoc (tablesBegun ts 0) (map asLine history) (eLine (carsIn history) ∷ []) ∙ ap (λ (x : List Line). x ++ (map asLine history ++ (eLine (carsIn history) ∷ []))) (begun-all ts)) in
+      let end : ℕ = 1 + length (sheetLines ts history) in
+      let a = first-line (linesBegun ts 0 history ++ (eLine (carsIn history) ∷ [])) end (rw lines at e) (ap (λ (x : List Line). 1 + length x) (sym lines)) in
       sym (sheet-short s short)
-      ∙ end-read s tail end ts cars (w .some) (w .sixty) (begun-on s tail end ts 0 cars (eLine (length cars) ∷ []) begun a)
+      ∙ end-read s tail end ts history (w .some) (w .sixty) (begun-on s tail end ts 0 history (eLine (carsIn history) ∷ []) begun a)
 
-pub every-text : (ts : List Table) (cars : List (List ℕ)) → WholeSheet ts cars → sheetOf (sheetText ts cars) ≡ whole ts cars
-every-text ts cars w = sheet-read (sheetText ts cars) [] ts cars w (sym (append-nil (sheetText ts cars))) (text-short ts cars w)
+pub every-text : (ts : List Table) (history : List TrainLine) → WholeSheet ts history → sheetOf (sheetText ts history) ≡ whole ts history
+every-text ts history w = sheet-read (sheetText ts history) [] ts history w (sym (append-nil (sheetText ts history))) (text-short ts history w)
 
 -- A sheet that is to be refused is.
 
-module _ (s : List ℕ) (line number : ℕ) (ts : List Table) (cars : List (List ℕ)) where
-  fault-read : Fault s line number ts cars → sheetOf s ≡ refusedAt line number
+module _ (s : List ℕ) (line number : ℕ) (ts : List Table) (history : List TrainLine) where
+  fault-read : Fault s line number ts history → sheetOf s ≡ refusedAt line number
   unfolding textOf
   fault-read f =
-      let lines : List Line = linesBegun ts (f .owed) cars in
+      let lines : List Line = linesBegun ts (f .owed) history in
       let a =
-      begun-on s (f .rest) line ts (f .owed) cars [] (f .begun)
+      begun-on s (f .rest) line ts (f .owed) history [] (f .begun)
       (first-line s (f .rest) (lines ++ []) line (f .text ∙ ap (λ (x : List Line). textOf x ++ f .rest) (sym (append-nil lines))) (ap (λ (x : List Line). 1 + length x) (append-nil lines) ∙ sym (f .due))) in
-      let e = step-refused s (here s (f .rest) line a) (λ h. f .begun .behind h .1) (ap (λ (x : List ℕ). first (lineFaults ts (f .owed) cars x)) (a .rest) ∙ f .fault) in
+      let e = step-refused s (here s (f .rest) line a) refl (λ h. f .begun .behind h .1) (ap (λ (x : List ℕ). first (lineFaults ts (f .owed) history x)) (a .rest) ∙ f .fault) in
       let n : a .line ≡ line = omega (arith, a .count) in
       sym (sheet-short s (f .short))
       ∙ sym (a .same)
       ∙ sym (is-over s (here s (f .rest) line a) _ e (a .sound) _ (refusedAt (a .line) number) refl)
       ∙ ap (λ (i : ℕ). refusedAt i number) n
 
-  pub refused-read : Refusal s line number ts cars → sheetOf s ≡ refusedAt line number
+  pub refused-read : Refusal s line number ts history → sheetOf s ≡ refusedAt line number
   refused-read (tooLong h) = sym (sheet-long s (h .long)) ∙ ap₂ refusedAt (sym (h .nought)) (sym (h .two))
   refused-read (fault h) = fault-read h
   refused-read (bytesAfter h) =
-      sheet-read s (h .rest) ts cars (h .good) (h .text) (h .short)
+      sheet-read s (h .rest) ts history (h .good) (h .text) (h .short)
       ∙ simp (ne-eqb (length (h .rest)) 0 (λ z. omega (arith, h .some)))
       (ap₂ refusedAt (sym (h .due)) (sym (h .nine)))

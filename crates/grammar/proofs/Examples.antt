@@ -1,7 +1,7 @@
 -- Document 01's own sheet, and the empty sheet, computed.
 use Prim.Native.Nat.{ℕ}
 use mathlib.Core.Path.{_≡_, refl}
-use mathlib.Core.List.{List, [], _∷_, _++_}
+use mathlib.Core.List.{List, [], _∷_, _++_, map}
 use Rattle.field.specs.Field.{seenTo, fieldAt, justified, fieldOf}
 use Rattle.reading.specs.declared.letter.Letter.{Letter}
 use Rattle.reading.specs.declared.letter.Letter.the-variants.{Table as T, Row as R, Car as C, End as E}
@@ -9,7 +9,7 @@ use Rattle.reading.specs.Reading.{letterOf, feed, feedAt, good, values, lineBy,
 use Rattle.line.specs.Writing.{fieldsOf, lineOf}
 use Rattle.table.specs.Table.{rowOf, Table}
 use Rattle.grammar.specs.Text.{textOf}
-use Rattle.grammar.specs.Grammar.{sheetText}
+use Rattle.grammar.specs.Grammar.{enters, sheetText}
 use Rattle.grammar.specs.Sheet.{refusedAt, whole, tableLine, rowLine, carLine, endLine, stepOf, lines, sheetOf}
 
 text : Letter → List ℕ → List ℕ
@@ -35,11 +35,11 @@ sheet =
     ++ text E (2 ∷ [])
 
 -- it is the text of its table and cars
-sheet-text : sheetText tables cars ≡ sheet
+sheet-text : sheetText tables (map enters cars) ≡ sheet
 unfolding text cars tables texts sheet fieldsOf justified fieldOf lineOf textOf
 sheet-text = refl
 
-sheet-read : sheetOf sheet ≡ whole tables cars
+sheet-read : sheetOf sheet ≡ whole tables (map enters cars)
 unfolding text cars tables texts sheet fieldsOf justified fieldOf lineOf seenTo fieldAt letterOf feed feedAt good values lineBy lineAt tableLine rowLine carLine endLine stepOf lines sheetOf
 sheet-read = refl
 

@@ -6,11 +6,12 @@ use mathlib.Core.List.{List, [], _∷_}
 use mathlib.Core.Logic.{⊎-elim}
 use native.Mathlib.Nat.{add-zero}
 use native.Mathlib.Omega.{arith}
-use lib.Dec.{ltb, eqb}
+use lib.Dec.{ltb, leb, eqb}
 use lib.ListN.{length, getD, drop, replicate, length-drop}
 use lib.Seq.{getD-drop}
 use borrow.Author.Tests.{lt-ltb, le-ltb, eq-eqb, ne-eqb, not-true}
 use Rattle.base.specs.Answer.{Verdict, refuses, first}
+use Rattle.base.specs.Limits.{mostCarLines}
 use Rattle.base.proofs.Choice.{below, same}
 use Rattle.base.proofs.Answer.{one-applies}
 use Rattle.field.specs.declared.Field.{Field}
@@ -29,10 +30,10 @@ use Rattle.reading.proofs.Letters.{found}
 use Rattle.reading.proofs.Fields.{value-at}
 use Rattle.reading.proofs.Lines.{IsLine, is-line}
 use Rattle.table.specs.Table.{rowOf, Table, tableLineBad, rowBad}
-use Rattle.grammar.specs.Grammar.{kinds, lastRows, mayCome}
+use Rattle.grammar.specs.Grammar.{TrainLine, carsIn, kinds, lastRows, mayCome}
 use Rattle.grammar.specs.Faults.{numberIn, letterIn, numberFaults, letterFaults, lineFaults}
 use Rattle.grammar.specs.Sheet.{State, refusedHere, dueBy, dueOf, byLetter, stepOf}
-use Rattle.grammar.proofs.Rules.{table-refused, row-refused, car-refused, end-refused}
+use Rattle.grammar.proofs.Rules.{cars-all, table-refused, row-refused, car-refused, end-refused}
 use Rattle.grammar.proofs.Steps.{step-read}
 
 -- From a place of s on, and from the start of the rest.
@@ -90,22 +91,22 @@ by-byte P t r c e other b =
     (same b 82))
     (same b 84)
 
-letters-due : (b : ℕ) (ts : List Table) (owed : ℕ) (cars : List (List ℕ)) → (0 < length cars → 0 < length ts)
-    → letterOf b (dueBy owed (length ts) (length cars)) ≡ letterIn b (mayCome ts owed cars)
+letters-due : (b : ℕ) (ts : List Table) (owed : ℕ) (history : List TrainLine) → (0 < length history → 0 < length ts)
+    → letterOf b (dueBy owed (length ts) (length history)) ≡ letterIn b (mayCome ts owed history)
 unfolding letterOf
-letters-due b ts (suc owed) cars h =
-    let due : dueBy (suc owed) (length ts) (length cars) ≡ rowOnly = simp (ne-eqb (suc owed) 0 (λ z. omega arith)) in
+letters-due b ts (suc owed) history h =
+    let due : dueBy (suc owed) (length ts) (length history) ≡ rowOnly = simp (ne-eqb (suc owed) 0 (λ z. omega arith)) in
     ap (letterOf b) due ∙ by-byte (λ (b : ℕ). letterOf b rowOnly ≡ letterIn b (R ∷ [])) refl refl refl refl (λ b t r c e. simp (t, r, c, e)) b
 letters-due b [] zero [] h =
     by-byte (λ (b : ℕ). letterOf b (dueBy 0 0 0) ≡ letterIn b (T ∷ [])) refl refl refl refl (λ b t r c e. simp (t, r, c, e)) b
-letters-due b [] zero (car ∷ cars) h = absurd (omega (arith, h (omega arith)))
+letters-due b [] zero (line ∷ history) h = absurd (omega (arith, h (omega arith)))
 letters-due b (t ∷ ts) zero [] h =
     let d : Due = record { table = true; row = false; car = true; end = true } in
     let due : dueBy 0 (suc (length ts)) 0 ≡ d = simp (lt-ltb 0 (suc (length ts)) (omega arith)) in
     ap (letterOf b) due ∙ by-byte (λ (b : ℕ). letterOf b d ≡ letterIn b (T ∷ C ∷ E ∷ [])) refl refl refl refl (λ b t r c e. simp (t, r, c, e)) b
-letters-due b (t ∷ ts) zero (car ∷ cars) h =
+letters-due b (t ∷ ts) zero (line ∷ history) h =
     let d : Due = record { table = false; row = false; car = true; end = true } in
-    let due : dueBy 0 (suc (length ts)) (suc (length cars)) ≡ d = simp (ne-eqb (suc (length cars)) 0 (λ z. omega arith), lt-ltb 0 (suc (length ts)) (omega arith)) in
+    let due : dueBy 0 (suc (length ts)) (suc (length history)) ≡ d = simp (ne-eqb (suc (length history)) 0 (λ z. omega arith), lt-ltb 0 (suc (length ts)) (omega arith)) in
     ap (letterOf b) due ∙ by-byte (λ (b : ℕ). letterOf b d ≡ letterIn b (C ∷ E ∷ [])) refl refl refl refl (λ b t r c e. simp (t, r, c, e)) b
 
 -- What reading the line due gives is the verdict of the tests.
@@ -116,11 +117,11 @@ module _ (s : List ℕ) (st : State) where
 
   -- the verdict on the line due, by what reading it gave
   abbrev pub verdictOf : Reading → Verdict
-  verdictOf (Read l) = first (numberFaults (st .tables) (st .cars) rest l)
+  verdictOf (Read l) = first (numberFaults (st .tables) (st .history) rest l)
   verdictOf (Refused n) = refuses n
 
   by-letter : (b : Bool) (f : Found)
-      → cond (not b) (refuses 3) (first (letterFaults (st .tables) (st .cars) rest f)) ≡ verdictOf (cond b (lineBy s (st .at) (feedAt s (st .at)) f) (refusedLine 3) .reading)
+      → cond (not b) (refuses 3) (first (letterFaults (st .tables) (st .history) rest f)) ≡ verdictOf (cond b (lineBy s (st .at) (feedAt s (st .at)) f) (refusedLine 3) .reading)
   unfolding lineBy
   by-letter false f = refl
   by-letter true Nothing = refl
@@ -136,14 +137,15 @@ module _ (s : List ℕ) (st : State) where
       by-fields true false = refl
       by-fields false g = refl
 
-  pub line-verdict : (0 < length (st .cars) → 0 < length (st .tables))
-      → first (lineFaults (st .tables) (st .owed) (st .cars) rest) ≡ verdictOf (lineAt s (st .at) (dueOf st) .reading)
+  pub line-verdict : st .cars ≡ carsIn (st .history) → (0 < length (st .history) → 0 < length (st .tables))
+      → first (lineFaults (st .tables) (st .owed) (st .history) rest) ≡ verdictOf (lineAt s (st .at) (dueOf st) .reading)
   unfolding lineAt
-  line-verdict h =
-      let letter : Found = letterIn (getD rest 0 0) (mayCome (st .tables) (st .owed) (st .cars)) in
+  line-verdict counted h =
+      let letter : Found = letterIn (getD rest 0 0) (mayCome (st .tables) (st .owed) (st .history)) in
       let found : letterOf (getD s (st .at) 0) (dueOf st) ≡ letter =
-      letters-due (getD s (st .at) 0) (st .tables) (st .owed) (st .cars) h
-      ∙ ap (λ (b : ℕ). letterIn b (mayCome (st .tables) (st .owed) (st .cars))) (ap (λ (i : ℕ). getD s i 0) (sym (add-zero (st .at))) ∙ sym (getD-drop (st .at) s 0 0)) in
+      ap (λ (n : ℕ). letterOf (getD s (st .at) 0) (dueBy (st .owed) (length (st .tables)) n)) (counted ∙ cars-all (st .history))
+      ∙ letters-due (getD s (st .at) 0) (st .tables) (st .owed) (st .history) h
+      ∙ ap (λ (b : ℕ). letterIn b (mayCome (st .tables) (st .owed) (st .history))) (ap (λ (i : ℕ). getD s i 0) (sym (add-zero (st .at))) ∙ sym (getD-drop (st .at) s 0 0)) in
       by-letter (ltb (feed rest) (length rest)) letter
       ∙ sym (ap₂ (λ (b : Bool) (f : Found). verdictOf (cond b (lineBy s (st .at) (feedAt s (st .at)) f) (refusedLine 3) .reading)) (feed-rest s (st .at)) found)
 
@@ -156,8 +158,8 @@ module _ (s : List ℕ) (st : State) where
 
   -- The line is refused where a test applies.
 
-  letter-refused : (l : Letter) (ns : List ℕ) {k : ℕ} → IsLine s (st .at) (dueOf st) l ns → verdictOf (Read l) ≡ refuses k → refusedHere st k ≡ byLetter (length s) st l ns
-  letter-refused l ns {k} h =
+  letter-refused : st .cars ≡ carsIn (st .history) → (l : Letter) (ns : List ℕ) {k : ℕ} → IsLine s (st .at) (dueOf st) l ns → verdictOf (Read l) ≡ refuses k → refusedHere st k ≡ byLetter (length s) st l ns
+  letter-refused counted l ns {k} h =
       found (λ m. IsLine s (st .at) (dueOf st) m ns → verdictOf (Read m) ≡ refuses k → refusedHere st k ≡ byLetter (length s) st m ns) (getD s (st .at) 0) l (dueOf st) (
         (λ _ _ h v.
             let p = one-applies 7 _ v in
@@ -169,27 +171,27 @@ module _ (s : List ℕ) (st : State) where
               ap (refusedHere st) (sym (p .1))
               ∙ row-refused st (rowOf (getD ns 0 0) (getD ns 1 0)) (ap₂ (λ (a b : ℕ). rowBad (lastRows (st .tables)) (rowOf a b)) (numbers-are h 0 (omega arith)) (numbers-are h 1 (omega arith)) ∙ p .0)),
           (
-            (λ _ _ h v. let p = one-applies 9 _ v in ap (refusedHere st) (sym (p .1)) ∙ car-refused st ns (p .0)),
+            (λ _ _ h v. let p = one-applies 9 _ v in ap (refusedHere st) (sym (p .1)) ∙ car-refused st ns (ap (leb mostCarLines) counted ∙ p .0)),
             (
               (λ _ _ h v.
                   let p = one-applies 9 _ v in
                   ap (refusedHere st) (sym (p .1))
-                  ∙ end-refused st (length s) (getD ns 0 0) (ap (λ (a : ℕ). eqb a (length (st .cars))) (numbers-are h 0 (omega arith)) ∙ not-true _ (p .0))),
+                  ∙ end-refused st (length s) (getD ns 0 0) (ap₂ eqb (numbers-are h 0 (omega arith)) counted ∙ not-true _ (p .0))),
               tt,
             ),
           ),
         ),
       ) (h .found) h
 
-  pub step-refused : (0 < length (st .cars) → 0 < length (st .tables)) → {k : ℕ} → first (lineFaults (st .tables) (st .owed) (st .cars) rest) ≡ refuses k
+  pub step-refused : st .cars ≡ carsIn (st .history) → (0 < length (st .history) → 0 < length (st .tables)) → {k : ℕ} → first (lineFaults (st .tables) (st .owed) (st .history) rest) ≡ refuses k
       → refusedHere st k ≡ stepOf s st
-  step-refused h {k} f = go (lineAt s (st .at) (dueOf st) .reading) refl
+  step-refused counted h {k} f = go (lineAt s (st .at) (dueOf st) .reading) refl
     where
       go : (x : Reading) → lineAt s (st .at) (dueOf st) .reading ≡ x → refusedHere st k ≡ stepOf s st
       go (Read l) e =
-          letter-refused l (lineAt s (st .at) (dueOf st) .numbers) (is-line s (st .at) (dueOf st) l e) (ap verdictOf (sym e) ∙ sym (line-verdict h) ∙ f)
+          letter-refused counted l (lineAt s (st .at) (dueOf st) .numbers) (is-line s (st .at) (dueOf st) l e) (ap verdictOf (sym e) ∙ sym (line-verdict counted h) ∙ f)
           ∙ step-read s st (lineAt s (st .at) (dueOf st)) refl (Read l) e
       go (Refused n) e =
-          let v : refuses n ≡ refuses k = ap verdictOf (sym e) ∙ sym (line-verdict h) ∙ f in
+          let v : refuses n ≡ refuses k = ap verdictOf (sym e) ∙ sym (line-verdict counted h) ∙ f in
           let same : n ≡ k = cc in
           ap (refusedHere st) (sym same) ∙ step-read s st (lineAt s (st .at) (dueOf st)) refl (Refused n) e

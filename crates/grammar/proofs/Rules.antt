@@ -1,14 +1,15 @@
--- What a line of each letter brings, by its tests, and the last table of a list.
-use Prim.Native.Nat.{ℕ, _-_}
+-- What a line of each letter brings, by its tests; the last table of a list, and the C lines of a history.
+use Prim.Native.Nat.{ℕ, suc, _+_, _-_}
 use mathlib.Core.Path.{_≡_, refl, ap}
 use mathlib.Core.Bool.{true, false}
 use mathlib.Core.List.{List, [], _∷_, _++_}
-use lib.ListN.{length}
+use native.Mathlib.Omega.{arith}
 use lib.Dec.{leb, eqb}
+use lib.ListN.{length}
 use Rattle.reading.specs.declared.letter.Letter.the-variants.{Table as T, Row as R, Car as C}
-use Rattle.base.specs.Limits.{mostCars}
+use Rattle.base.specs.Limits.{mostCarLines}
 use Rattle.table.specs.Table.{Row, Table, tableLineBad, rowBad}
-use Rattle.grammar.specs.Grammar.{kinds, lastRows}
+use Rattle.grammar.specs.Grammar.{TrainLine, enters, carsIn, kinds, lastRows}
 use Rattle.grammar.specs.Sheet.{State, refusedHere, past, withRow, tableLine, rowLine, carLine, endLine}
 
 module _ (st : State) where
@@ -17,7 +18,7 @@ module _ (st : State) where
   table-refused kind rows e = rw e
 
   pub table-taken : (kind rows : ℕ) (ts : List Table) → tableLineBad (kinds (st .tables)) kind rows ≡ false → ts ≡ st .tables ++ (record { kind = kind; rows = [] } ∷ [])
-      → past T st rows ts (st .cars) ≡ tableLine st kind rows
+      → past T st rows ts (st .cars) (st .history) ≡ tableLine st kind rows
   unfolding tableLine
   table-taken kind rows ts e p = rw (e, p)
 
@@ -26,20 +27,20 @@ module _ (st : State) where
   row-refused row e = rw e
 
   pub row-taken : (row : Row) (ts : List Table) → rowBad (lastRows (st .tables)) row ≡ false → ts ≡ withRow (st .tables) row
-      → past R st (st .owed - 1) ts (st .cars) ≡ rowLine st row
+      → past R st (st .owed - 1) ts (st .cars) (st .history) ≡ rowLine st row
   unfolding rowLine
   row-taken row ts e p = rw (e, p)
 
-  pub car-refused : (numbers : List ℕ) → leb mostCars (length (st .cars)) ≡ true → refusedHere st 9 ≡ carLine st numbers
+  pub car-refused : (numbers : List ℕ) → leb mostCarLines (st .cars) ≡ true → refusedHere st 9 ≡ carLine st numbers
   unfolding carLine
   car-refused numbers e = rw e
 
-  pub car-taken : (numbers : List ℕ) (cs : List (List ℕ)) → leb mostCars (length (st .cars)) ≡ false → cs ≡ st .cars ++ (numbers ∷ [])
-      → past C st (st .owed) (st .tables) cs ≡ carLine st numbers
+  pub car-taken : (numbers : List ℕ) (more : List TrainLine) → leb mostCarLines (st .cars) ≡ false → more ≡ st .history ++ (enters numbers ∷ [])
+      → past C st (st .owed) (st .tables) (st .cars + 1) more ≡ carLine st numbers
   unfolding carLine
-  car-taken numbers cs e p = rw (e, p)
+  car-taken numbers more e p = rw (e, p)
 
-  pub end-refused : (bytes count : ℕ) → eqb count (length (st .cars)) ≡ false → refusedHere st 9 ≡ endLine bytes st count
+  pub end-refused : (bytes count : ℕ) → eqb count (st .cars) ≡ false → refusedHere st 9 ≡ endLine bytes st count
   unfolding endLine
   end-refused bytes count e = rw e
 
@@ -54,3 +55,17 @@ pub last-rows-last : (ts : List Table) (t : Table) → lastRows (ts ++ (t ∷ []
 last-rows-last [] t = refl
 last-rows-last (u ∷ []) t = refl
 last-rows-last (u ∷ v ∷ ts) t = last-rows-last (v ∷ ts) t
+
+-- The C lines of a history.
+
+-- every line is one
+pub cars-all : (history : List TrainLine) → carsIn history ≡ length history
+cars-all [] = refl
+cars-all (enters numbers ∷ history) = ap suc (cars-all history)
+
+pub cars-append : (a b : List TrainLine) → carsIn (a ++ b) ≡ carsIn a + carsIn b
+cars-append [] b = omega arith
+cars-append (enters numbers ∷ a) b = omega (arith, cars-append a b)
+
+pub cars-more : (history : List TrainLine) (numbers : List ℕ) → carsIn (history ++ (enters numbers ∷ [])) ≡ carsIn history + 1
+cars-more history numbers = cars-append history (enters numbers ∷ [])

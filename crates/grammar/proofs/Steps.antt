@@ -7,7 +7,7 @@ use native.Mathlib.Omega.{arith}
 use lib.Dec.{ltb, leb, eqb}
 use lib.ListN.{length, getD, length-append}
 use borrow.Author.Tests.{leb-false, eqb-true, eqb-false, not-true}
-use Rattle.base.specs.Limits.{mostCars}
+use Rattle.base.specs.Limits.{mostCarLines}
 use Rattle.base.proofs.Choice.{never, cond-either}
 use Rattle.base.proofs.Lists.{each-append}
 use Rattle.reading.specs.declared.letter.Letter.{Letter}
@@ -25,10 +25,11 @@ use Rattle.reading.proofs.Fields.{length-values}
 use Rattle.reading.proofs.Lines.{IsLine, is-line}
 use Rattle.line.proofs.RoundTrip.{read-small}
 use Rattle.table.specs.Table.{rowOf, Table, tableLineBad, rowBad}
-use Rattle.grammar.specs.Grammar.{CarNumbers, EachCar, WholeSheet, kinds, lastRows}
+use Rattle.grammar.specs.Grammar.{TrainLine, enters, Fitting, CarNumbers, WholeSheet, kinds, lastRows}
 use Rattle.grammar.specs.Sheet.{longest, State, Step, next, over, refusedHere, dueBy, dueOf, tableLine, rowLine, carLine, endLine, byLetter, byReading, stepOf}
 use Rattle.grammar.specs.Proper.{Proper}
-use Rattle.grammar.specs.Inner.{SoundState}
+use Rattle.grammar.specs.Inner.{SoundState, Recorded}
+use Rattle.grammar.proofs.Rules.{cars-more}
 use Rattle.grammar.proofs.Passed.{passed-verdict, few-accepted, passed-table, passed-row}
 
 -- A letter that was found is due.
@@ -91,20 +92,20 @@ early-line s at due =
 -- After a line.
 
 abbrev pub After : ℕ → State → Step → Type 0
-After bytes st (next st′) = SoundState bytes st′ × (st .at < st′ .at) × (EachCar (st .cars) → EachCar (st′ .cars))
-After bytes st (over st′ r) = bytes ≤ longest → EachCar (st .cars) → Proper bytes r
+After bytes st (next st′) = SoundState bytes st′ × (st .at < st′ .at) × (Recorded st → Recorded st′)
+After bytes st (over st′ r) = bytes ≤ longest → Recorded st → Proper bytes r
 
 module _ (s : List ℕ) (st : State) (sound : SoundState (length s) st) where
   refused : (n : ℕ) → 3 ≤ n → n ≤ 9 → After (length s) st (refusedHere st n)
-  refused n a b short cars =
+  refused n a b short told =
       record { lines = omega (arith, sound .within, sound .number); least = omega arith; most = b; long = λ e. absurd (omega arith) }
 
-  pub whole-good : dueOf st .end ≡ true → EachCar (st .cars) → WholeSheet (st .tables) (st .cars)
-  whole-good d cars =
+  pub whole-good : dueOf st .end ≡ true → Recorded st → WholeSheet (st .tables) (st .history)
+  whole-good d told =
       let none = settled (st .owed) _ d in
       let verdict = passed-verdict [] (st .tables) (rw none at (sound .passed)) in
       let few = few-accepted [] (st .tables) verdict (omega arith) in
-      record { some = some-tables (st .owed) (st .tables) (length (st .cars)) d; four = omega arith; accepted = verdict; sixty = sound .sixty; each = cars }
+      record { some = some-tables (st .owed) (st .tables) (st .cars) d; four = omega arith; accepted = verdict; sixty = omega (arith, sound .sixty, told .counted); each = told .each }
 
   module _ (ns : List ℕ) where
     after-table : dueOf st .table ≡ true → IsLine s (st .at) (dueOf st) T ns → After (length s) st (tableLine st (getD ns 0 0) (getD ns 1 0))
@@ -123,7 +124,7 @@ module _ (s : List ℕ) (st : State) (sound : SoundState (length s) st) where
             sixty = sound .sixty;
           },
           omega arith,
-          λ c. c,
+          λ told. record { each = told .each; counted = told .counted },
         ))
 
     after-row : dueOf st .row ≡ true → IsLine s (st .at) (dueOf st) R ns → After (length s) st (rowLine st (rowOf (getD ns 0 0) (getD ns 1 0)))
@@ -143,7 +144,7 @@ module _ (s : List ℕ) (st : State) (sound : SoundState (length s) st) where
             sixty = sound .sixty;
           },
           omega arith,
-          λ c. c,
+          λ told. record { each = told .each; counted = told .counted },
         ))
 
     after-car : IsLine s (st .at) (dueOf st) C ns → After (length s) st (carLine st ns)
@@ -155,17 +156,17 @@ module _ (s : List ℕ) (st : State) (sound : SoundState (length s) st) where
           fourteen = ap length (h .are) ∙ length-append (values s (st .at + 1) mostFields) [] ∙ omega (arith, length-values s (st .at + 1) mostFields);
           small = read-small s (st .at) (dueOf st) C ns h;
         } in
-        cond-either (After (length s) st) (leb mostCars (length (st .cars))) _ _
+        cond-either (After (length s) st) (leb mostCarLines (st .cars)) _ _
         (λ _. refused 9 (omega arith) (omega arith))
         (λ e. (
           record {
             within = omega arith;
             number = omega (arith, sound .number);
             passed = sound .passed;
-            sixty = rw length-append (omega (arith, leb-false mostCars (length (st .cars)) e));
+            sixty = omega (arith, leb-false mostCarLines (st .cars) e);
           },
           omega arith,
-          λ c. each-append CarNumbers (st .cars) (ns ∷ []) c (car, tt),
+          λ told. record { each = each-append Fitting (st .history) (enters ns ∷ []) (told .each) (car, tt); counted = omega (arith, told .counted, cars-more (st .history) ns) },
         ))
 
     after-end : dueOf st .end ≡ true → IsLine s (st .at) (dueOf st) E ns → After (length s) st (endLine (length s) st (getD ns 0 0))
@@ -173,10 +174,10 @@ module _ (s : List ℕ) (st : State) (sound : SoundState (length s) st) where
     after-end d h =
         let p = h .place in
         let w = h .within in
-        cond-either (After (length s) st) (eqb (getD ns 0 0) (length (st .cars))) _ _
-        (λ _ short cars.
+        cond-either (After (length s) st) (eqb (getD ns 0 0) (st .cars)) _ _
+        (λ _ short told.
         cond-either (Proper (length s)) (eqb (st .at + widthOf E) (length s)) _ _
-        (λ _. whole-good d cars)
+        (λ _. whole-good d told)
         (λ _. record { lines = omega (arith, sound .number); least = omega arith; most = omega arith; long = λ e. absurd (omega arith) }))
         (λ _. refused 9 (omega arith) (omega arith))
 

@@ -15,7 +15,7 @@ use Rattle.line.proofs.Bytes.{length-lineOf}
 use Rattle.table.specs.Table.{Row, Table, tablesTestsAfter}
 use Rattle.table.proofs.Table.{next-table}
 use Rattle.grammar.specs.Text.{textOf}
-use Rattle.grammar.specs.Grammar.{tLine, rLine, cLine, eLine, tableLines, tablesLines, sheetText, CarNumbers, EachCar, WholeSheet, tablesBegun}
+use Rattle.grammar.specs.Grammar.{tLine, rLine, cLine, eLine, tableLines, tablesLines, TrainLine, enters, asLine, carsIn, sheetText, CarNumbers, EachLine, WholeSheet, tablesBegun}
 use Rattle.grammar.specs.Sheet.{longest}
 
 pub text-append : (a b : List Line) → textOf (a ++ b) ≡ textOf a ++ textOf b
@@ -56,19 +56,19 @@ tables-length used (t ∷ ts) e =
 pub car-places : (car : List ℕ) → CarNumbers car → length (cLine car .numbers) ≡ mostFields
 car-places car h = ap length (append-nil car) ∙ h .fourteen
 
-cars-length : (cars : List (List ℕ)) → EachCar cars → length (textOf (map cLine cars)) ≡ widthOf C * length cars
+history-length : (history : List TrainLine) → EachLine history → length (textOf (map asLine history)) ≡ widthOf C * carsIn history
 unfolding textOf
-cars-length [] e = refl
-cars-length (car ∷ cars) (e, es) = rw (length-append, length-lineOf (cLine car) (car-places car e), cars-length cars es) (omega arith)
+history-length [] e = refl
+history-length (enters car ∷ history) (e, es) = rw (length-append, length-lineOf (cLine car) (car-places car e), history-length history es) (omega arith)
 
-pub text-short : (ts : List Table) (cars : List (List ℕ)) → WholeSheet ts cars → length (sheetText ts cars) ≤ longest
+pub text-short : (ts : List Table) (history : List TrainLine) → WholeSheet ts history → length (sheetText ts history) ≤ longest
 unfolding textOf
-text-short ts cars w =
-    let end : length (textOf (eLine (length cars) ∷ [])) ≡ widthOf E = ap length (append-nil (lineOf (eLine (length cars)))) ∙ length-lineOf (eLine (length cars)) refl in
+text-short ts history w =
+    let end : length (textOf (eLine (carsIn history) ∷ [])) ≡ widthOf E = ap length (append-nil (lineOf (eLine (carsIn history)))) ∙ length-lineOf (eLine (carsIn history)) refl in
     omega (
       arith,
-      text-length (tablesLines ts) (map cLine cars ++ (eLine (length cars) ∷ [])),
-      text-length (map cLine cars) (eLine (length cars) ∷ []),
+      text-length (tablesLines ts) (map asLine history ++ (eLine (carsIn history) ∷ [])),
+      text-length (map asLine history) (eLine (carsIn history) ∷ []),
       tables-length [] ts (w .accepted),
-      cars-length cars (w .each),
+      history-length history (w .each),
     )

@@ -8,10 +8,9 @@ use lib.Dec.{ltb}
 use lib.ListN.{length}
 use borrow.Author.Tests.{ltb-false, ltb-true, lt-ltb, le-ltb}
 use Rattle.base.proofs.Choice.{cond-either}
-use Rattle.grammar.specs.Grammar.{EachCar}
 use Rattle.grammar.specs.Sheet.{longest, SheetRead, refusedAt, State, Step, next, over, stepOf, after, lines, readFrom, start, sheetOf}
 use Rattle.grammar.specs.Proper.{Proper}
-use Rattle.grammar.specs.Inner.{SoundState}
+use Rattle.grammar.specs.Inner.{SoundState, Recorded}
 use Rattle.grammar.proofs.Steps.{After, after-step}
 
 -- The turns.
@@ -27,12 +26,12 @@ lines-same (suc j) (suc k) s st h v w = go (λ st′ g i. lines-same j k s st′
     go later (next st′) a = later st′ (a .0) (a .1)
     go later (over st′ r) a = refl
 
-lines-proper : (k : ℕ) (s : List ℕ) (st : State) → length s ≤ longest → SoundState (length s) st → EachCar (st .cars) → length s < st .at + k → Proper (length s) (lines k s st)
+lines-proper : (k : ℕ) (s : List ℕ) (st : State) → length s ≤ longest → SoundState (length s) st → Recorded st → length s < st .at + k → Proper (length s) (lines k s st)
 unfolding lines
 lines-proper zero s st b h c w = absurd (omega (arith, h .within))
 lines-proper (suc k) s st b h c w = go (λ st′ g i d. lines-proper k s st′ b g d (omega arith)) (stepOf s st) (after-step s st h)
   where
-    go : ((st′ : State) → SoundState (length s) st′ → st .at < st′ .at → EachCar (st′ .cars) → Proper (length s) (lines k s st′))
+    go : ((st′ : State) → SoundState (length s) st′ → st .at < st′ .at → Recorded st′ → Proper (length s) (lines k s st′))
         → (p : Step) → After (length s) st p → Proper (length s) (after (λ (x : State). lines k s x) p)
     go later (next st′) a = later st′ (a .0) (a .1) (a .2 c)
     go later (over st′ r) a = a b c
@@ -40,12 +39,15 @@ lines-proper (suc k) s st b h c w = go (λ st′ g i d. lines-proper k s st′ b
 start-sound : (n : ℕ) → SoundState n start
 start-sound n = record { within = omega arith; number = omega arith; passed = refl; sixty = omega arith }
 
+pub start-recorded : Recorded start
+start-recorded = record { each = tt; counted = refl }
+
 pub sheet-proper : (s : List ℕ) → Proper (length s) (sheetOf s)
 unfolding sheetOf
 sheet-proper s =
     cond-either (Proper (length s)) (ltb longest (length s)) _ _
     (λ e. record { lines = omega arith; least = omega arith; most = omega arith; long = λ _. ltb-true longest (length s) e })
-    (λ e. lines-proper (length s + 1) s start (ltb-false longest (length s) e) (start-sound (length s)) tt (omega arith))
+    (λ e. lines-proper (length s + 1) s start (ltb-false longest (length s) e) (start-sound (length s)) start-recorded (omega arith))
 
 -- 2 and the start.
 

@@ -1,11 +1,11 @@
--- The lines of a sheet from its tables and cars, and what document 01 asks of them; no word of how a sheet is read.
+-- The lines of a sheet from its tables and the history of lines behind them, and what document 01 asks of them; no word of how a sheet is read.
 use Prim.Native.Nat.{ℕ, zero, suc, _+_, _≤_, _<_}
 use mathlib.Core.Path.{_≡_}
 use mathlib.Core.Bool.{true, false}
 use mathlib.Core.List.{List, [], _∷_, _++_, map}
 use lib.ListN.{length}
 use Rattle.base.specs.Answer.{accepts, first}
-use Rattle.base.specs.Limits.{mostTables, mostCars}
+use Rattle.base.specs.Limits.{mostTables, mostCarLines}
 use Rattle.base.specs.Lists.{Each}
 use Rattle.reading.specs.declared.letter.Letter.{Letter}
 use Rattle.reading.specs.declared.letter.Letter.the-variants.{Table as T, Row as R, Car as C, End as E}
@@ -33,6 +33,18 @@ cLine numbers = lineWith C numbers
 abbrev pub eLine : ℕ → Line
 eLine cars = lineWith E (cars ∷ [])
 
+-- Behind the tables: a car is entered, by the fourteen numbers of a C line.
+pub data TrainLine : Type 0 where
+  enters : List ℕ → TrainLine
+
+abbrev pub asLine : TrainLine → Line
+asLine (enters numbers) = cLine numbers
+
+-- how many C lines
+abbrev pub carsIn : List TrainLine → ℕ
+carsIn [] = 0
+carsIn (enters numbers ∷ history) = suc (carsIn history)
+
 -- A whole sheet.
 
 -- a table: its T line, then an R line for each row
@@ -43,30 +55,33 @@ abbrev pub tablesLines : List Table → List Line
 tablesLines [] = []
 tablesLines (t ∷ ts) = tableLines t ++ tablesLines ts
 
--- the tables, then a C line for each car, then E
-abbrev pub sheetLines : List Table → List (List ℕ) → List Line
-sheetLines tables cars = tablesLines tables ++ (map cLine cars ++ (eLine (length cars) ∷ []))
+-- the tables, then the history of lines behind them, then E
+abbrev pub sheetLines : List Table → List TrainLine → List Line
+sheetLines tables history = tablesLines tables ++ (map asLine history ++ (eLine (carsIn history) ∷ []))
 
-abbrev pub sheetText : List Table → List (List ℕ) → List ℕ
-sheetText tables cars = textOf (sheetLines tables cars)
+abbrev pub sheetText : List Table → List TrainLine → List ℕ
+sheetText tables history = textOf (sheetLines tables history)
 
 -- fourteen numbers, none above 99,999,999
 pub record CarNumbers (numbers : List ℕ) : Type 0 where
   pub fourteen : length numbers ≡ mostFields
   pub small : smallTo numbers mostFields ≡ true
 
-abbrev pub EachCar : List (List ℕ) → Type 0
-EachCar = Each CarNumbers
+abbrev pub Fitting : TrainLine → Type 0
+Fitting (enters numbers) = CarNumbers numbers
 
--- one to four tables, to which neither 7 nor 8 applies, and at most sixty cars
-pub record WholeSheet (tables : List Table) (cars : List (List ℕ)) : Type 0 where
+abbrev pub EachLine : List TrainLine → Type 0
+EachLine = Each Fitting
+
+-- one to four tables, to which neither 7 nor 8 applies, and at most sixty C lines
+pub record WholeSheet (tables : List Table) (history : List TrainLine) : Type 0 where
   pub some : 1 ≤ length tables
   pub four : length tables ≤ mostTables
   pub accepted : tablesVerdict tables ≡ accepts
-  pub sixty : length cars ≤ mostCars
-  pub each : EachCar cars
+  pub sixty : carsIn history ≤ mostCarLines
+  pub each : EachLine history
 
--- The beginning of a sheet: tables, of which the last still lacks `owed` rows, and cars.
+-- The beginning of a sheet: tables, of which the last still lacks `owed` rows, and lines behind them.
 
 -- the tables' lines; the last T line has told how many rows its table will have
 abbrev pub tablesBegun : List Table → ℕ → List Line
@@ -74,8 +89,8 @@ tablesBegun [] owed = []
 tablesBegun (t ∷ []) owed = tLine (t .kind) (length (t .rows) + owed) ∷ map rLine (t .rows)
 tablesBegun (t ∷ u ∷ ts) owed = tableLines t ++ tablesBegun (u ∷ ts) owed
 
-abbrev pub linesBegun : List Table → ℕ → List (List ℕ) → List Line
-linesBegun tables owed cars = tablesBegun tables owed ++ map cLine cars
+abbrev pub linesBegun : List Table → ℕ → List TrainLine → List Line
+linesBegun tables owed history = tablesBegun tables owed ++ map asLine history
 
 -- each T line and each row so far is as 7 and 8 ask, behind tables of the types `used`
 abbrev pub Passed : List ℕ → List Table → ℕ → Type 0
@@ -84,12 +99,12 @@ Passed used (t ∷ []) owed = (tableLineBad used (t .kind) (length (t .rows) + o
 Passed used (t ∷ u ∷ ts) owed =
     (tableLineBad used (t .kind) (length (t .rows)) ≡ false) × (first (rowsTests (t .rows)) ≡ accepts) × Passed (used ++ (t .kind ∷ [])) (u ∷ ts) owed
 
--- and a car comes behind tables that lack no row
-pub record Begun (tables : List Table) (owed : ℕ) (cars : List (List ℕ)) : Type 0 where
+-- and other lines come behind tables that lack no row
+pub record Begun (tables : List Table) (owed : ℕ) (history : List TrainLine) : Type 0 where
   pub passed : Passed [] tables owed
-  pub behind : 0 < length cars → (owed ≡ 0) × (0 < length tables)
-  pub sixty : length cars ≤ mostCars
-  pub each : EachCar cars
+  pub behind : 0 < length history → (owed ≡ 0) × (0 < length tables)
+  pub sixty : carsIn history ≤ mostCarLines
+  pub each : EachLine history
 
 -- The line behind a beginning.
 
@@ -103,9 +118,9 @@ lastRows [] = []
 lastRows (t ∷ []) = t .rows
 lastRows (t ∷ u ∷ ts) = lastRows (u ∷ ts)
 
--- the letters that may come next: R exactly while rows are lacking, else T until there is a car, and C and E once there is a table
-abbrev pub mayCome : List Table → ℕ → List (List ℕ) → List Letter
-mayCome tables (suc owed) cars = R ∷ []
-mayCome [] zero cars = T ∷ []
+-- the letters that may come next: R exactly while rows are lacking, else T until there is a line behind the tables, and C and E once there is a table
+abbrev pub mayCome : List Table → ℕ → List TrainLine → List Letter
+mayCome tables (suc owed) history = R ∷ []
+mayCome [] zero history = T ∷ []
 mayCome (t ∷ ts) zero [] = T ∷ C ∷ E ∷ []
-mayCome (t ∷ ts) zero (car ∷ cars) = C ∷ E ∷ []
+mayCome (t ∷ ts) zero (line ∷ history) = C ∷ E ∷ []

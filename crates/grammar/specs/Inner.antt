@@ -3,10 +3,10 @@ use Prim.Native.Nat.{ℕ, _+_, _≤_, _<_}
 use mathlib.Core.Path.{_≡_}
 use mathlib.Core.List.{List, []}
 use lib.ListN.{length, take}
-use Rattle.base.specs.Limits.{mostCars}
+use Rattle.base.specs.Limits.{mostCarLines}
 use Rattle.table.specs.Table.{Table}
 use Rattle.grammar.specs.Text.{textOf}
-use Rattle.grammar.specs.Grammar.{EachCar, linesBegun, Passed}
+use Rattle.grammar.specs.Grammar.{carsIn, EachLine, linesBegun, Passed}
 use Rattle.grammar.specs.Sheet.{State, readFrom}
 
 -- a place in a sheet of so many bytes
@@ -14,17 +14,22 @@ pub record Sound (bytes at line owed : ℕ) (tables : List Table) (cars : ℕ) :
   pub within : at ≤ bytes
   pub number : line ≤ at + 1
   pub passed : Passed [] tables owed
-  pub sixty : cars ≤ mostCars
+  pub sixty : cars ≤ mostCarLines
 
 abbrev pub SoundState : ℕ → State → Type 0
-SoundState bytes st = Sound bytes (st .at) (st .line) (st .owed) (st .tables) (length (st .cars))
+SoundState bytes st = Sound bytes (st .at) (st .line) (st .owed) (st .tables) (st .cars)
+
+-- each line behind the tables is as it must be, and the C lines among them are counted
+pub record Recorded (st : State) : Type 0 where
+  pub each : EachLine (st .history)
+  pub counted : st .cars ≡ carsIn (st .history)
 
 -- the bytes before the place are the lines that were read, and these are the beginning of a sheet
 pub record LinesRead (s : List ℕ) (st : State) : Type 0 where
-  pub bytes : take (st .at) s ≡ textOf (linesBegun (st .tables) (st .owed) (st .cars))
-  pub number : st .line ≡ 1 + length (linesBegun (st .tables) (st .owed) (st .cars))
-  pub behind : 0 < length (st .cars) → (st .owed ≡ 0) × (0 < length (st .tables))
-  pub each : EachCar (st .cars)
+  pub bytes : take (st .at) s ≡ textOf (linesBegun (st .tables) (st .owed) (st .history))
+  pub number : st .line ≡ 1 + length (linesBegun (st .tables) (st .owed) (st .history))
+  pub behind : 0 < length (st .history) → (st .owed ≡ 0) × (0 < length (st .tables))
+  pub recorded : Recorded st
 
 -- from a to b the reading only went on: what the lines from b on bring is what those from a on do
 pub record Onward (s : List ℕ) (a b : State) : Type 0 where

@@ -14,4 +14,4 @@ pub record ProperRefusal (bytes line number : ℕ) : Type 0 where
 -- what was read of so many bytes
 abbrev pub Proper : ℕ → SheetRead → Type 0
 Proper bytes (refusedAt line number) = ProperRefusal bytes line number
-Proper bytes (whole tables cars) = WholeSheet tables cars
+Proper bytes (whole tables history) = WholeSheet tables history

@@ -4,7 +4,7 @@ use mathlib.Core.Bool.{cond, _&&_, not}
 use mathlib.Core.List.{List, [], _∷_, _++_}
 use lib.ListN.{length, getD}
 use lib.Dec.{ltb, leb, eqb}
-use Rattle.base.specs.Limits.{mostTables, mostRows, mostCars}
+use Rattle.base.specs.Limits.{mostTables, mostRows, mostCarLines}
 use Rattle.reading.specs.declared.letter.Letter.{Letter}
 use Rattle.reading.specs.declared.letter.Letter.the-variants.{Table as T, Row as R, Car as C, End as E, CarAccepted, CarRefused, Totals, GradeTotals, SheetRefused}
 use Rattle.reading.specs.declared.Due.{Due}
@@ -13,25 +13,26 @@ use Rattle.reading.specs.declared.Reading.the-variants.{Read, Refused}
 use Rattle.reading.specs.Letter.{widthOf}
 use Rattle.reading.specs.Reading.{lineAt}
 use Rattle.table.specs.Table.{Row, rowOf, Table, tableLineBad, rowBad}
-use Rattle.grammar.specs.Grammar.{kinds, lastRows}
+use Rattle.grammar.specs.Grammar.{TrainLine, enters, kinds, lastRows}
 
 -- the longest sheet, in bytes: 39,771
 abbrev pub longest : ℕ
-longest = mostTables * (widthOf T + mostRows * widthOf R) + mostCars * widthOf C + widthOf E
+longest = mostTables * (widthOf T + mostRows * widthOf R) + mostCarLines * widthOf C + widthOf E
 
--- What reading gives: a line number and a refusal; or the tables, and the fourteen numbers of each C line.
+-- What reading gives: a line number and a refusal; or the tables, and the history of lines behind them.
 pub data SheetRead : Type 0 where
   refusedAt : ℕ → ℕ → SheetRead
-  whole : List Table → List (List ℕ) → SheetRead
+  whole : List Table → List TrainLine → SheetRead
 
 -- Where the reading stands: the place and the number of the line due, how many rows the last table still lacks, the tables so far, the last of
--- them with the rows that were read, and the numbers of each C line so far.
+-- them with the rows that were read, how many C lines, and the history of lines behind the tables.
 pub record State : Type 0 where
   pub at : ℕ
   pub line : ℕ
   pub owed : ℕ
   pub tables : List Table
-  pub cars : List (List ℕ)
+  pub cars : ℕ
+  pub history : List TrainLine
 
 -- What a line brings: one more line is due, or the reading is over where it stands.
 pub data Step : Type 0 where
@@ -42,8 +43,8 @@ abbrev pub refusedHere : State → ℕ → Step
 refusedHere st number = over st (refusedAt (st .line) number)
 
 -- on to the line behind one of the letter
-abbrev pub past : Letter → State → ℕ → List Table → List (List ℕ) → Step
-past letter st owed tables cars = next (record { at = st .at + widthOf letter; line = st .line + 1; owed = owed; tables = tables; cars = cars })
+abbrev pub past : Letter → State → ℕ → List Table → ℕ → List TrainLine → Step
+past letter st owed tables cars history = next (record { at = st .at + widthOf letter; line = st .line + 1; owed = owed; tables = tables; cars = cars; history = history })
 
 -- The letters that may come next: R exactly while rows are owed; else T until a C line was read, and C and E once there is a table.
 abbrev pub dueBy : ℕ → ℕ → ℕ → Due
@@ -52,13 +53,13 @@ dueBy owed tables cars =
     record { table = settled && eqb cars 0; row = not settled; car = settled && ltb 0 tables; end = settled && ltb 0 tables }
 
 abbrev pub dueOf : State → Due
-dueOf st = dueBy (st .owed) (length (st .tables)) (length (st .cars))
+dueOf st = dueBy (st .owed) (length (st .tables)) (st .cars)
 
 -- T: 7, else a table that owes its rows.
 unfoldable pub tableLine : State → ℕ → ℕ → Step
 tableLine st kind rows =
     cond (tableLineBad (kinds (st .tables)) kind rows) (refusedHere st 7)
-    (past T st rows (st .tables ++ (record { kind = kind; rows = [] } ∷ [])) (st .cars))
+    (past T st rows (st .tables ++ (record { kind = kind; rows = [] } ∷ [])) (st .cars) (st .history))
 
 -- R: 8 by the rows before it in the last table, else one more row there.
 abbrev pub withRow : List Table → Row → List Table
@@ -67,17 +68,17 @@ withRow (t ∷ []) row = record { kind = t .kind; rows = t .rows ++ (row ∷ [])
 withRow (t ∷ u ∷ ts) row = t ∷ withRow (u ∷ ts) row
 
 unfoldable pub rowLine : State → Row → Step
-rowLine st row = cond (rowBad (lastRows (st .tables)) row) (refusedHere st 8) (past R st (st .owed - 1) (withRow (st .tables) row) (st .cars))
+rowLine st row = cond (rowBad (lastRows (st .tables)) row) (refusedHere st 8) (past R st (st .owed - 1) (withRow (st .tables) row) (st .cars) (st .history))
 
 -- C: 9 for the sixty-first.
 unfoldable pub carLine : State → List ℕ → Step
-carLine st numbers = cond (leb mostCars (length (st .cars))) (refusedHere st 9) (past C st (st .owed) (st .tables) (st .cars ++ (numbers ∷ [])))
+carLine st numbers = cond (leb mostCarLines (st .cars)) (refusedHere st 9) (past C st (st .owed) (st .tables) (st .cars + 1) (st .history ++ (enters numbers ∷ [])))
 
 -- E: 9 where its number is not the number of C lines; 9 at the next line's number where bytes follow.
 unfoldable pub endLine : ℕ → State → ℕ → Step
 endLine bytes st count =
-    cond (eqb count (length (st .cars)))
-    (over st (cond (eqb (st .at + widthOf E) bytes) (whole (st .tables) (st .cars)) (refusedAt (st .line + 1) 9)))
+    cond (eqb count (st .cars))
+    (over st (cond (eqb (st .at + widthOf E) bytes) (whole (st .tables) (st .history)) (refusedAt (st .line + 1) 9)))
     (refusedHere st 9)
 
 -- a line by its letter and numbers; a letter of an answer may not come
@@ -114,7 +115,7 @@ abbrev pub readFrom : List ℕ → State → SheetRead
 readFrom s st = lines (length s + 1) s st
 
 abbrev pub start : State
-start = record { at = 0; line = 1; owed = 0; tables = []; cars = [] }
+start = record { at = 0; line = 1; owed = 0; tables = []; cars = 0; history = [] }
 
 -- 2: the sheet is longer than the longest; the line number is 0
 unfoldable pub sheetOf : List ℕ → SheetRead

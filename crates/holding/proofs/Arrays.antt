@@ -1,4 +1,4 @@
--- How tables and cars stand in the arrays: one more row, one more table, one more car.
+-- How tables and the lines behind them stand in the arrays: one more row, one more table, one more line.
 use Prim.Native.Nat.{ℕ, zero, suc, _+_, _*_, _≤_, _<_}
 use mathlib.Core.Path.{_≡_, refl, ap, sym, _∙_}
 use mathlib.Core.List.{List, [], _∷_, _++_, append-assoc}
@@ -10,15 +10,14 @@ use lib.Seq.{drop-cons, getD-set-same, getD-set-other, take-at, drop-at, take-ad
 use Rattle.base.specs.Buffer.{put}
 use Rattle.base.proofs.Buffer.{length-put}
 use Rattle.base.specs.Limits.{mostRows}
-use Rattle.reading.specs.Letter.{mostFields}
 use Rattle.table.specs.Table.{Row, rowOf, Table}
 use Rattle.table.specs.Layout.{rowsFrom, tableAt, tablesFrom}
 use Rattle.table.proofs.Arrays.{rows-last}
-use Rattle.grammar.specs.Grammar.{kinds, lastRows}
+use Rattle.grammar.specs.Grammar.{TrainLine, kinds, lastRows}
 use Rattle.grammar.specs.Sheet.{dueBy, dueOf, withRow}
 use Rattle.grammar.proofs.Rules.{with-row-last, last-rows-last}
 use Rattle.holding.specs.declared.reader.Reader.{Reader}
-use Rattle.holding.specs.Layout.{carsFrom}
+use Rattle.holding.specs.Layout.{linePlaces, lineIn, lineNumbers, historyFrom}
 use Rattle.holding.specs.Inner.{stateIn, Stored}
 
 -- Rows.
@@ -127,30 +126,29 @@ module _ (types rows l c l′ c′ : List ℕ) (n k i a b : ℕ) (count : n ≡ 
       ∙ ap (λ (x : List Table). withRow x (rowOf a b)) (tables-last types rows l c k)
       ∙ with-row-last (tablesFrom types rows l c 0 k) (tableAt types rows l c k) (rowOf a b))
 
--- Cars.
+-- Lines behind the tables.
 
-pub length-cars : (f : List ℕ) (i n : ℕ) → length (carsFrom f i n) ≡ n
-length-cars f i zero = refl
-length-cars f i (suc n) = ap suc (length-cars f (i + 1) n)
+pub length-history : (f : List ℕ) (i n : ℕ) → length (historyFrom f i n) ≡ n
+length-history f i zero = refl
+length-history f i (suc n) = ap suc (length-history f (i + 1) n)
 
 -- the letters due, by the numbers that the code holds
 pub due-held : (h : Reader) (l c f : List ℕ) → dueBy (h .owed) (h .directory .count) (h .cars) ≡ dueOf (stateIn h l c f)
 due-held h l c f =
-    sym (ap (λ (n : ℕ). dueBy (h .owed) n (length (carsFrom f 0 (h .cars)))) (length-tables (h .directory .types) (h .directory .rows) l c 0 (h .directory .count))
-    ∙ ap (dueBy (h .owed) (h .directory .count)) (length-cars f 0 (h .cars)))
+    sym (ap (λ (n : ℕ). dueBy (h .owed) n (h .cars)) (length-tables (h .directory .types) (h .directory .rows) l c 0 (h .directory .count)))
 
-cars-same : (f f′ : List ℕ) (i n : ℕ) → ((j : ℕ) → j < i + n → take mostFields (drop (mostFields * j) f′) ≡ take mostFields (drop (mostFields * j) f)) → carsFrom f′ i n ≡ carsFrom f i n
-cars-same f f′ i zero h = refl
-cars-same f f′ i (suc n) h =
-    ap (λ (x : List ℕ). x ∷ carsFrom f′ (i + 1) n) (h i (omega arith))
-    ∙ ap (λ (x : List (List ℕ)). take mostFields (drop (mostFields * i) f) ∷ x) (cars-same f f′ (i + 1) n (λ j u. h j (omega arith)))
+history-same : (f f′ : List ℕ) (i n : ℕ) → ((j : ℕ) → j < i + n → lineNumbers f′ j ≡ lineNumbers f j) → historyFrom f′ i n ≡ historyFrom f i n
+history-same f f′ i zero h = refl
+history-same f f′ i (suc n) h =
+    ap (λ (x : List ℕ). lineIn x ∷ historyFrom f′ (i + 1) n) (h i (omega arith))
+    ∙ ap (λ (x : List TrainLine). lineIn (lineNumbers f i) ∷ x) (history-same f f′ (i + 1) n (λ j u. h j (omega arith)))
 
-cars-snoc : (f : List ℕ) (i n : ℕ) → carsFrom f i (suc n) ≡ carsFrom f i n ++ (take mostFields (drop (mostFields * (i + n)) f) ∷ [])
-cars-snoc f i zero = rw (add-zero i)
-cars-snoc f i (suc n) =
+history-snoc : (f : List ℕ) (i n : ℕ) → historyFrom f i (suc n) ≡ historyFrom f i n ++ (lineIn (lineNumbers f (i + n)) ∷ [])
+history-snoc f i zero = rw (add-zero i)
+history-snoc f i (suc n) =
     let e : i + 1 + n ≡ i + suc n = omega arith in
-    ap (λ (x : List (List ℕ)). take mostFields (drop (mostFields * i) f) ∷ x)
-    (cars-snoc f (i + 1) n ∙ ap (λ (j : ℕ). carsFrom f (i + 1) n ++ (take mostFields (drop (mostFields * j) f) ∷ [])) e)
+    ap (λ (x : List TrainLine). lineIn (lineNumbers f i) ∷ x)
+    (history-snoc f (i + 1) n ∙ ap (λ (j : ℕ). historyFrom f (i + 1) n ++ (lineIn (lineNumbers f j) ∷ [])) e)
 
 -- a part of two lists that are the same so far
 part-same : (l l′ : List ℕ) (a m : ℕ) → a ≤ length l → a ≤ length l′ → take (a + m) l′ ≡ take (a + m) l → take m (drop a l′) ≡ take m (drop a l)
@@ -159,33 +157,33 @@ part-same l l′ a m h h′ e =
     ∙ ap (drop a) (sym (take-add a m l′) ∙ e ∙ take-add a m l)
     ∙ drop-at (take a l) (take m (drop a l)) a (length-take-le a l h)
 
--- fourteen numbers that were copied, one by one
-pub copied : (f : List ℕ) (at : ℕ) (ns : List ℕ) (j : ℕ) → length ns ≡ mostFields → j ≡ mostFields → paste f at ns j ≡ put f at ns
+-- the numbers of a line that were copied, one by one
+pub copied : (f : List ℕ) (at : ℕ) (ns : List ℕ) (j : ℕ) → length ns ≡ linePlaces → j ≡ linePlaces → paste f at ns j ≡ put f at ns
 copied f at ns j n e =
     ap (paste f at ns) e
-    ∙ ap (λ (x : List ℕ). take at f ++ x ++ drop (at + mostFields) f) (take-all mostFields ns (omega arith))
+    ∙ ap (λ (x : List ℕ). take at f ++ x ++ drop (at + linePlaces) f) (take-all linePlaces ns (omega arith))
     ∙ ap (λ (i : ℕ). take at f ++ ns ++ drop (at + i) f) (sym n)
 
--- one more car, stored behind those that there are
-module _ (f ns : List ℕ) (n : ℕ) (fourteen : length ns ≡ mostFields) (room : mostFields * n + mostFields ≤ length f) where
-  earlier : (j : ℕ) → j < 0 + n → take mostFields (drop (mostFields * j) (put f (mostFields * n) ns)) ≡ take mostFields (drop (mostFields * j) f)
+-- one more line, stored behind those that there are
+module _ (f ns : List ℕ) (n : ℕ) (whole : length ns ≡ linePlaces) (room : linePlaces * n + linePlaces ≤ length f) where
+  earlier : (j : ℕ) → j < 0 + n → lineNumbers (put f (linePlaces * n) ns) j ≡ lineNumbers f j
   earlier j h =
-      let len : length (take (mostFields * n) f) ≡ mostFields * n = length-take-le (mostFields * n) f (omega arith) in
-      part-same f (put f (mostFields * n) ns) (mostFields * j) mostFields (omega arith) (omega (arith, length-put f (mostFields * n) ns (omega arith)))
-      (ap (λ (x : List ℕ). take (mostFields * j + mostFields) x) (append-assoc (take (mostFields * n) f) ns (drop (mostFields * n + length ns) f))
-      ∙ take-append-le (mostFields * j + mostFields) (take (mostFields * n) f) (ns ++ drop (mostFields * n + length ns) f) (omega arith)
-      ∙ take-take (mostFields * j + mostFields) (mostFields * n) f (omega arith))
+      let len : length (take (linePlaces * n) f) ≡ linePlaces * n = length-take-le (linePlaces * n) f (omega arith) in
+      part-same f (put f (linePlaces * n) ns) (linePlaces * j) linePlaces (omega arith) (omega (arith, length-put f (linePlaces * n) ns (omega arith)))
+      (ap (λ (x : List ℕ). take (linePlaces * j + linePlaces) x) (append-assoc (take (linePlaces * n) f) ns (drop (linePlaces * n + length ns) f))
+      ∙ take-append-le (linePlaces * j + linePlaces) (take (linePlaces * n) f) (ns ++ drop (linePlaces * n + length ns) f) (omega arith)
+      ∙ take-take (linePlaces * j + linePlaces) (linePlaces * n) f (omega arith))
 
-  this : take mostFields (drop (mostFields * n) (put f (mostFields * n) ns)) ≡ ns
+  this : lineNumbers (put f (linePlaces * n) ns) n ≡ ns
   this =
-      ap (λ (x : List ℕ). take mostFields (drop (mostFields * n) x)) (append-assoc (take (mostFields * n) f) ns (drop (mostFields * n + length ns) f))
-      ∙ ap (λ (x : List ℕ). take mostFields x) (drop-at (take (mostFields * n) f) (ns ++ drop (mostFields * n + length ns) f) (mostFields * n) (length-take-le (mostFields * n) f (omega arith)))
-      ∙ take-at ns (drop (mostFields * n + length ns) f) mostFields fourteen
+      ap (λ (x : List ℕ). take linePlaces (drop (linePlaces * n) x)) (append-assoc (take (linePlaces * n) f) ns (drop (linePlaces * n + length ns) f))
+      ∙ ap (λ (x : List ℕ). take linePlaces x) (drop-at (take (linePlaces * n) f) (ns ++ drop (linePlaces * n + length ns) f) (linePlaces * n) (length-take-le (linePlaces * n) f (omega arith)))
+      ∙ take-at ns (drop (linePlaces * n + length ns) f) linePlaces whole
 
-  pub car-more : carsFrom (put f (mostFields * n) ns) 0 (n + 1) ≡ carsFrom f 0 n ++ (ns ∷ [])
-  car-more =
-      ap (carsFrom (put f (mostFields * n) ns) 0) (add-one n)
-      ∙ cars-snoc (put f (mostFields * n) ns) 0 n
-      ∙ ap (λ (x : List (List ℕ)). x ++ (take mostFields (drop (mostFields * (0 + n)) (put f (mostFields * n) ns)) ∷ [])) (cars-same f (put f (mostFields * n) ns) 0 n earlier)
-      ∙ ap (λ (i : ℕ). carsFrom f 0 n ++ (take mostFields (drop (mostFields * i) (put f (mostFields * n) ns)) ∷ [])) (zero-add n)
-      ∙ ap (λ (x : List ℕ). carsFrom f 0 n ++ (x ∷ [])) this
+  pub line-more : historyFrom (put f (linePlaces * n) ns) 0 (n + 1) ≡ historyFrom f 0 n ++ (lineIn ns ∷ [])
+  line-more =
+      ap (historyFrom (put f (linePlaces * n) ns) 0) (add-one n)
+      ∙ history-snoc (put f (linePlaces * n) ns) 0 n
+      ∙ ap (λ (x : List TrainLine). x ++ (lineIn (lineNumbers (put f (linePlaces * n) ns) (0 + n)) ∷ [])) (history-same f (put f (linePlaces * n) ns) 0 n earlier)
+      ∙ ap (λ (i : ℕ). historyFrom f 0 n ++ (lineIn (lineNumbers (put f (linePlaces * n) ns) i) ∷ [])) (zero-add n)
+      ∙ ap (λ (x : List ℕ). historyFrom f 0 n ++ (lineIn x ∷ [])) this

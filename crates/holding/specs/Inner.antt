@@ -12,16 +12,16 @@ use Rattle.holding.specs.declared.reader.Progress.{Progress}
 use Rattle.holding.specs.declared.reader.Progress.the-variants.{Next, Over}
 use Rattle.holding.specs.declared.reader.Reader.{Reader}
 use Rattle.holding.specs.declared.reader.Stepped.{Stepped}
-use Rattle.holding.specs.Layout.{carsOf, outcomeTold}
+use Rattle.holding.specs.Layout.{historyOf, outcomeTold}
 
 -- what the code holds while the reading goes on
 abbrev pub stateIn : Reader → List ℕ → List ℕ → List ℕ → State
 stateIn r levels capacities fields =
-    record { at = r .at; line = r .line; owed = r .owed; tables = tablesOf (r .directory) levels capacities; cars = carsOf fields (r .cars) }
+    record { at = r .at; line = r .line; owed = r .owed; tables = tablesOf (r .directory) levels capacities; cars = r .cars; history = historyOf fields (r .cars) }
 
 abbrev pub stepBy : Progress → State → Step
 stepBy Next st = next st
-stepBy (Over outcome) st = over st (outcomeTold outcome (st .tables) (st .cars))
+stepBy (Over outcome) st = over st (outcomeTold outcome (st .tables) (st .history))
 
 abbrev pub stepIn : Stepped → List ℕ → List ℕ → List ℕ → Step
 stepIn p levels capacities fields = stepBy (p .progress) (stateIn (p .reader) levels capacities fields)

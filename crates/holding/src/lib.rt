@@ -1,9 +1,9 @@
-// What is held while a sheet is read: where the reading stands, and the rows and cars so far.
-use base::MOST_CARS;
+// What is held while a sheet is read: where the reading stands, and the rows and lines behind the tables so far.
+use base::MOST_CAR_LINES;
 use reading::MOST_FIELDS;
 
 mod reader; // reader.rt: where the reading stands
-mod store; // store.rt: rows and cars stored in the arrays that are lent
+mod store; // store.rt: rows and lines stored in the arrays that are lent
 
 pub use reader::Progress;
 pub use reader::Reader;
@@ -12,11 +12,13 @@ pub use reader::due_of;
 pub use reader::reader_at;
 pub use reader::refused_here;
 pub use reader::started;
-pub use store::store_car;
+pub use store::store_line;
 pub use store::store_row;
 
-// How many numbers the C lines of a sheet hold at most.
-pub const CAR_NUMBERS: usize = MOST_CARS * MOST_FIELDS;
+// How many numbers stand for a line behind the tables, and for all of them at most.
+pub const LINE_PLACES: usize = MOST_FIELDS;
+
+pub const HISTORY_NUMBERS: usize = MOST_CAR_LINES * LINE_PLACES;
 
 // Whether the sheet was read whole, or the line number and the refusal.
 pub enum Outcome {

@@ -1,15 +1,14 @@
-// Rows and cars stored in the arrays that are lent. An array's size is asked because only a list that is lent on
+// Rows and lines stored in the arrays that are lent. An array's size is asked because only a list that is lent on
 // tells the proof how long it is.
 ghost use mathlib.Core.Path.{_≡_};
 ghost use Prim.Native.Nat.{_+_, _≤_, _<_};
 ghost use lib.ListN.{length};
 ghost use Rattle.base.specs.Buffer.{put};
-ghost use Rattle.reading.specs.Letter.{mostFields};
 ghost use Rattle.table.specs.Layout.{places};
-ghost use Rattle.holding.specs.Layout.{carNumbers};
+ghost use Rattle.holding.specs.Layout.{linePlaces, historyNumbers};
 ghost use Rattle.holding.specs.Inner.{Stored};
-use crate::CAR_NUMBERS;
-use reading::MOST_FIELDS;
+use crate::HISTORY_NUMBERS;
+use crate::LINE_PLACES;
 
 // How many numbers a lent list has.
 fn size(list: &[u32]) -> usize
@@ -35,14 +34,14 @@ pub fn store_row(
     capacities[place] = capacity;
 }
 
-// Stores a car's numbers from `at` on.
-pub fn store_car(fields: &mut [u32; CAR_NUMBERS], at: usize, numbers: [u32; MOST_FIELDS])
-    requires { ⌜ at + mostFields ≤ carNumbers ⌝ }
-    ensures { λ _. ⌜ (now (fields .exit) ≡ put (now (fields .entry)) at numbers) × (length (now (fields .entry)) ≡ carNumbers) ⌝ }
+// Stores a line's numbers from `at` on.
+pub fn store_line(fields: &mut [u32; HISTORY_NUMBERS], at: usize, numbers: [u32; LINE_PLACES])
+    requires { ⌜ at + linePlaces ≤ historyNumbers ⌝ }
+    ensures { λ _. ⌜ (now (fields .exit) ≡ put (now (fields .entry)) at numbers) × (length (now (fields .entry)) ≡ historyNumbers) ⌝ }
 {
     size(fields);
     let mut j: usize = 0;
-    while j < MOST_FIELDS {
+    while j < LINE_PLACES {
         fields[at + j] = numbers[j];
         j += 1;
     }

@@ -10,19 +10,19 @@ use Rattle.grammar.specs.Proper.{ProperRefusal}
 use Rattle.grammar.proofs.Turns.{sheet-proper}
 use Rattle.holding.specs.declared.Outcome.{Outcome}
 use Rattle.holding.specs.declared.Outcome.the-variants.{Whole, RefusedAt}
-use Rattle.holding.specs.Layout.{carsOf, outcomeTold}
+use Rattle.holding.specs.Layout.{historyOf, outcomeTold}
 use Rattle.sheet.specs.declared.Contents.{Contents}
 use Rattle.sheet.specs.Layout.{readIn}
 
 module _ (s : List ℕ) (r : Contents) (l c f : List ℕ) (e : readIn r l c f ≡ sheetOf s) where
   pub refused-read : {line number : ℕ} → r .outcome ≡ RefusedAt line number → refusedAt line number ≡ sheetOf s
-  refused-read o = sym (ap (λ (x : Outcome). outcomeTold x (tablesOf (r .directory) l c) (carsOf f (r .cars))) o) ∙ e
+  refused-read o = sym (ap (λ (x : Outcome). outcomeTold x (tablesOf (r .directory) l c) (historyOf f (r .cars))) o) ∙ e
 
-  pub whole-read : r .outcome ≡ Whole → whole (tablesOf (r .directory) l c) (carsOf f (r .cars)) ≡ sheetOf s
-  whole-read o = sym (ap (λ (x : Outcome). outcomeTold x (tablesOf (r .directory) l c) (carsOf f (r .cars))) o) ∙ e
+  pub whole-read : r .outcome ≡ Whole → whole (tablesOf (r .directory) l c) (historyOf f (r .cars)) ≡ sheetOf s
+  whole-read o = sym (ap (λ (x : Outcome). outcomeTold x (tablesOf (r .directory) l c) (historyOf f (r .cars))) o) ∙ e
 
   pub refused-proper : {line number : ℕ} → r .outcome ≡ RefusedAt line number → ProperRefusal (length s) line number
   refused-proper o = rw (← refused-read o) at (sheet-proper s)
 
-  pub whole-proper : r .outcome ≡ Whole → WholeSheet (tablesOf (r .directory) l c) (carsOf f (r .cars))
+  pub whole-proper : r .outcome ≡ Whole → WholeSheet (tablesOf (r .directory) l c) (historyOf f (r .cars))
   whole-proper o = rw (← whole-read o) at (sheet-proper s)

@@ -1,11 +1,11 @@
--- The loop over the cars of a sheet: what is written and what is still to be written make the whole listing.
-use Prim.Native.Nat.{ℕ, _+_, _-_, _*_, _≤_, _<_}
+-- The loop over the lines behind a sheet's tables: what is written and what is still to be written make the whole listing.
+use Prim.Native.Nat.{ℕ, _+_, _-_, _≤_, _<_}
 use mathlib.Core.Path.{_≡_, ap, _∙_}
 use mathlib.Core.Bool.{true}
 use mathlib.Core.List.{List, [], _∷_}
 use native.Mathlib.Omega.{arith}
-use lib.ListN.{length, getD, take, drop}
-use Rattle.base.specs.Limits.{mostCars}
+use lib.ListN.{length}
+use Rattle.base.specs.Limits.{mostCarLines}
 use Rattle.base.specs.Answer.{accepts}
 use Rattle.base.specs.Buffer.{put}
 use Rattle.reading.specs.declared.letter.Line.{Line}
@@ -13,110 +13,115 @@ use Rattle.reading.specs.Letter.{widthOf}
 use Rattle.line.specs.Writing.{lineOf, writable}
 use Rattle.table.specs.Table.{Table, tablesVerdict}
 use Rattle.table.proofs.Arrays.{one-left, none-left}
-use Rattle.car.specs.Car.{carOf}
-use Rattle.consist.specs.Train.{Train, emptyTrain, enterAnswer, enterTrain}
-use Rattle.consist.specs.Book.{car}
+use Rattle.consist.specs.Train.{Train, emptyTrain}
+use Rattle.consist.specs.Book.{Item}
+use Rattle.consist.specs.Demand3.{answerTo, trainWith}
 use Rattle.consist.specs.Inner.{Reached}
 use Rattle.consist.proofs.Book.{reached-first, reached-next, reached-sound, reached-four}
-use Rattle.holding.specs.Layout.{carsFrom, carsOf}
-use Rattle.grammar.specs.Grammar.{EachCar}
-use Rattle.holding.proofs.Arrays.{length-cars}
+use Rattle.holding.specs.Layout.{lineIn, lineNumbers, historyFrom, historyOf}
+use Rattle.grammar.specs.Grammar.{TrainLine, EachLine}
+use Rattle.grammar.proofs.Rules.{cars-all}
+use Rattle.holding.proofs.Arrays.{length-history}
 use Rattle.grammar.specs.Text.{textOf}
-use Rattle.answers.specs.Listing.{itemsOf, answerLine, totalsLines, linesFrom, leastBuffer}
-use Rattle.answers.proofs.Lengths.{number-small, text-most}
+use Rattle.answers.specs.Listing.{itemsOf, itemLine, totalsLines, linesFrom, leastBuffer}
+use Rattle.answers.proofs.Lengths.{line-fit, text-most}
 use Rattle.printing.specs.Inner.{Closing}
-use Rattle.answers.proofs.Lines.{Fit, car-fit}
+use Rattle.answers.proofs.Lines.{Fit}
+use Rattle.listing.specs.Inner.{itemAt}
 use Rattle.printing.proofs.Laid.{Laid, none-laid, line-room, line-laid}
 
 -- the lines of a whole sheet, and their bytes
-abbrev pub sheetLines : List Table → List (List ℕ) → List Line
-sheetLines ts cars = linesFrom emptyTrain (itemsOf ts cars)
+abbrev pub sheetLines : List Table → List TrainLine → List Line
+sheetLines ts history = linesFrom emptyTrain (itemsOf ts history)
 
-abbrev pub sheetText : List Table → List (List ℕ) → List ℕ
-sheetText ts cars = textOf (sheetLines ts cars)
+abbrev pub sheetText : List Table → List TrainLine → List ℕ
+sheetText ts history = textOf (sheetLines ts history)
 
 -- the least buffer has room for every sheet's
-pub sheet-fits : (ts : List Table) → tablesVerdict ts ≡ accepts → (fields : List ℕ) (cars : ℕ) → cars ≤ mostCars → EachCar (carsOf fields cars)
-    → length (sheetText ts (carsOf fields cars)) ≤ leastBuffer
-sheet-fits ts good fields cars h e = omega (arith, text-most ts good emptyTrain reached-first (carsOf fields cars) e, length-cars fields 0 cars)
+pub sheet-fits : (ts : List Table) → tablesVerdict ts ≡ accepts → (fields : List ℕ) (cars : ℕ) → cars ≤ mostCarLines → EachLine (historyOf fields cars)
+    → length (sheetText ts (historyOf fields cars)) ≤ leastBuffer
+sheet-fits ts good fields cars h e = omega (arith, text-most ts good emptyTrain reached-first (historyOf fields cars) e, cars-all (historyOf fields cars), length-history fields 0 cars)
 
--- the cars from number i on
-abbrev left : List ℕ → ℕ → ℕ → List (List ℕ)
-left fields cars i = carsFrom fields i (cars - i)
+-- the lines from line i on
+abbrev left : List ℕ → ℕ → ℕ → List TrainLine
+left fields cars i = historyFrom fields i (cars - i)
 
--- the next car, and the others
-abbrev here : List ℕ → ℕ → List ℕ
-here fields i = take 14 (drop (14 * i) fields)
+-- the next line, and the others
+abbrev here : List ℕ → ℕ → TrainLine
+here fields i = lineIn (lineNumbers fields i)
 
-next-car : (fields : List ℕ) (cars i : ℕ) → i < cars → left fields cars i ≡ here fields i ∷ left fields cars (i + 1)
-next-car fields cars i h = ap (carsFrom fields i) (one-left cars i h)
+next-line : (fields : List ℕ) (cars i : ℕ) → i < cars → left fields cars i ≡ here fields i ∷ left fields cars (i + 1)
+next-line fields cars i h = ap (historyFrom fields i) (one-left cars i h)
 
--- Where the loop stands: `out` up to `at`, with the train `running` and the cars from i on, beside the whole listing over the buffer as lent.
+-- Where the loop stands: `out` up to `at`, with the train `running` and the lines from i on, beside the whole listing over the buffer as lent.
 pub record Written (ts : List Table) (fields : List ℕ) (cars : ℕ) (lent out : List ℕ) (running : Train) (at i : ℕ) : Type 0 where
   pub reached : i ≤ cars
-  pub laid : Laid lent 0 (sheetLines ts (carsOf fields cars)) out at (linesFrom running (itemsOf ts (left fields cars i)))
+  pub laid : Laid lent 0 (sheetLines ts (historyOf fields cars)) out at (linesFrom running (itemsOf ts (left fields cars i)))
   pub train : Reached running
-  pub each : EachCar (left fields cars i)
+  pub each : EachLine (left fields cars i)
 
-pub begun : (ts : List Table) (fields : List ℕ) (cars : ℕ) (lent : List ℕ) → EachCar (carsOf fields cars) → Written ts fields cars lent lent emptyTrain 0 0
+pub begun : (ts : List Table) (fields : List ℕ) (cars : ℕ) (lent : List ℕ) → EachLine (historyOf fields cars) → Written ts fields cars lent lent emptyTrain 0 0
 begun ts fields cars lent e =
     let z : cars - 0 ≡ cars = omega arith in
     record {
       reached = omega arith;
-      laid = rw z (none-laid lent 0 (sheetLines ts (carsOf fields cars)));
+      laid = rw z (none-laid lent 0 (sheetLines ts (historyOf fields cars)));
       train = reached-first;
       each = rw z e;
     }
 
-module _ (ts : List Table) (good : tablesVerdict ts ≡ accepts) (fields : List ℕ) (cars : ℕ) (lent : List ℕ) (fits : length (sheetText ts (carsOf fields cars)) ≤ length lent)
+module _ (ts : List Table) (good : tablesVerdict ts ≡ accepts) (fields : List ℕ) (cars : ℕ) (lent : List ℕ) (fits : length (sheetText ts (historyOf fields cars)) ≤ length lent)
     (out : List ℕ) (running : Train) (at i : ℕ) (m : Written ts fields cars lent out running at i) where
-  space : 0 + length (sheetText ts (carsOf fields cars)) ≤ length lent
+  space : 0 + length (sheetText ts (historyOf fields cars)) ≤ length lent
   space = omega arith
 
-  -- a turn writes the next car's line
+  -- a turn writes the answer to the next line
   module _ (h : i < cars) where
+    abbrev item : Item
+    item = itemAt ts fields i
+
     abbrev line : Line
-    line = answerLine (getD (here fields i) 0 0) (enterAnswer ts running (carOf (here fields i)))
+    line = itemLine item (answerTo running item)
 
     abbrev entered : Train
-    entered = enterTrain ts running (carOf (here fields i))
+    entered = trainWith running item
 
     abbrev later : List Line
     later = linesFrom entered (itemsOf ts (left fields cars (i + 1)))
 
-    these : EachCar (here fields i ∷ left fields cars (i + 1))
-    these = rw (next-car fields cars i h) at (m .each)
+    these : EachLine (here fields i ∷ left fields cars (i + 1))
+    these = rw (next-line fields cars i h) at (m .each)
 
-    line-fit : Fit line
-    line-fit = car-fit ts running (carOf (here fields i)) good (number-small (here fields i) (these .0))
+    fit : Fit line
+    fit = line-fit ts good running (here fields i) (these .0)
 
-    ahead : Laid lent 0 (sheetLines ts (carsOf fields cars)) out at (line ∷ later)
-    ahead = rw (next-car fields cars i h) at (m .laid)
+    ahead : Laid lent 0 (sheetLines ts (historyOf fields cars)) out at (line ∷ later)
+    ahead = rw (next-line fields cars i h) at (m .laid)
 
-    pub car-room : writable line at (length out) ≡ true
-    car-room = line-room lent 0 (sheetLines ts (carsOf fields cars)) space out at line later ahead line-fit
+    pub room-for : writable line at (length out) ≡ true
+    room-for = line-room lent 0 (sheetLines ts (historyOf fields cars)) space out at line later ahead fit
 
     pub turn : (l : Line) (running′ : Train) (out′ : List ℕ) (at′ : ℕ) → l ≡ line → running′ ≡ entered → out′ ≡ put out at (lineOf l) → at′ ≡ at + widthOf (l .letter) → length out′ ≡ length out
         → Written ts fields cars lent out′ running′ at′ (i + 1)
     turn l running′ out′ at′ el er eo ea en =
         record {
           reached = omega arith;
-          laid = rw er (line-laid lent 0 (sheetLines ts (carsOf fields cars)) space out at line later ahead line-fit l out′ at′ el eo ea en);
-          train = rw er (reached-next (car ts (carOf (here fields i))) (m .train));
+          laid = rw er (line-laid lent 0 (sheetLines ts (historyOf fields cars)) space out at line later ahead fit l out′ at′ el eo ea en);
+          train = rw er (reached-next item (m .train));
           each = these .1;
         }
 
-  -- behind the last car the totals are left
+  -- behind the last line the totals are left
   module _ (h : cars ≤ i) where
     none : left fields cars i ≡ []
-    none = ap (carsFrom fields i) (none-left cars i h)
+    none = ap (historyFrom fields i) (none-left cars i h)
 
-    closing : Laid lent 0 (sheetLines ts (carsOf fields cars)) out at (totalsLines (running .sums))
+    closing : Laid lent 0 (sheetLines ts (historyOf fields cars)) out at (totalsLines (running .sums))
     closing = rw none at (m .laid)
 
     pub totals-ready : Closing (running .sums) at (length out)
     totals-ready = record { sound = reached-sound (m .train); four = reached-four (m .train); space = omega (arith, closing .total, closing .same) }
 
     pub ended : (out′ : List ℕ) (r : ℕ) → r ≡ at + length (textOf (totalsLines (running .sums))) → out′ ≡ put out at (textOf (totalsLines (running .sums)))
-        → (r ≡ length (sheetText ts (carsOf fields cars))) × (out′ ≡ put lent 0 (sheetText ts (carsOf fields cars)))
+        → (r ≡ length (sheetText ts (historyOf fields cars))) × (out′ ≡ put lent 0 (sheetText ts (historyOf fields cars)))
     ended out′ r er eo = (omega (arith, er, closing .total), eo ∙ closing .bytes)

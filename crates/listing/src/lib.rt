@@ -1,49 +1,63 @@
 // A sheet answered: the listing of its cars, or the line that says why it is turned away.
 ghost use mathlib.Core.Path.{_≡_};
-ghost use Prim.Native.Nat.{_+_, _*_, _≤_, _<_};
-ghost use lib.ListN.{length, getD, take, drop};
+ghost use Prim.Native.Nat.{_≤_, _<_};
+ghost use lib.ListN.{length, getD};
 ghost use Rattle.base.specs.Buffer.{put};
-ghost use Rattle.base.specs.Limits.{mostCars};
+ghost use Rattle.base.specs.Limits.{mostCars, mostCarLines};
+ghost use Rattle.reading.specs.Letter.{mostFields};
 ghost use Rattle.table.specs.Layout.{tablesOf};
+ghost use Rattle.table.specs.Inner.{Good};
 ghost use Rattle.car.specs.Car.{carOf};
+ghost use Rattle.summing.specs.Inner.{Sound};
 ghost use Rattle.consist.specs.Train.{emptyTrain};
+ghost use Rattle.consist.specs.Demand3.{answerTo, trainWith};
+ghost use Rattle.entering.specs.Lent.{lentTrain};
 ghost use Rattle.grammar.specs.Text.{textOf};
 ghost use Rattle.grammar.specs.Sheet.{sheetOf};
 ghost use Rattle.grammar.specs.ByGrammar.{ReadByGrammar};
-ghost use Rattle.holding.specs.Layout.{carsOf};
-ghost use Rattle.answers.specs.Listing.{itemsOf, linesFrom, leastBuffer, replyOf, afterAnswer};
+ghost use Rattle.holding.specs.Layout.{lineNumbers, historyOf};
+ghost use Rattle.answers.specs.Listing.{itemsOf, itemLine, linesFrom, leastBuffer, replyOf, afterAnswer};
 ghost use Rattle.answers.specs.Reconciled.{SheetReconciled};
 ghost use Rattle.answers.specs.Paper.{PaperExample};
-ghost use Rattle.listing.specs.Inner.{Ready};
+ghost use Rattle.listing.specs.Inner.{itemAt, Ready};
 use answers::Reply;
 use base::GRADES;
+use base::MOST_CAR_LINES;
 use base::MOST_CARS;
 use car::Car;
 use entering::Tally;
 use heating::Density15;
-use holding::CAR_NUMBERS;
+use holding::HISTORY_NUMBERS;
+use holding::LINE_PLACES;
 use holding::Outcome;
+use reading::Line;
 use table::Directory;
 use table::PLACES;
 use train::Train;
 
-// The longest answer, in bytes, and so the least buffer: a line for each of sixty cars, S, and G for each grade.
-pub const LEAST_BUFFER: usize = MOST_CARS * scanning::CAR_ACCEPTED_BYTES
+// The longest answer, in bytes, and so the least buffer: a line for each of sixty C lines, S, and G for each grade.
+pub const LEAST_BUFFER: usize = MOST_CAR_LINES * scanning::CAR_ACCEPTED_BYTES
     + scanning::TOTALS_BYTES
     + GRADES * scanning::GRADE_TOTALS_BYTES;
 
-// Number j of car i of the sheet, whose fourteen numbers stand from 14 i on.
-fn number_at(fields: &[u32; CAR_NUMBERS], i: usize, j: usize) -> u32
-    requires { ⌜ (i < mostCars) × (j < 14) ⌝ }
-    ensures { λ r. ⌜ r ≡ getD (take 14 (drop (14 * i) (now (fields .entry)))) j 0 ⌝ }
-{
-    fields[14 * i + j]
+// What a line behind the tables gives: its line of the listing, and the train with it but for its numbers.
+struct Listed {
+    line: Line,
+    tally: Tally,
 }
 
-// Car i of the sheet.
-fn car_at(fields: &[u32; CAR_NUMBERS], i: usize) -> Car
-    requires { ⌜ i < mostCars ⌝ }
-    ensures { λ r. ⌜ r ≡ carOf (take 14 (drop (14 * i) (now (fields .entry)))) ⌝ }
+// Number j of line i behind the tables, whose numbers stand from 14 i on.
+fn number_at(fields: &[u32; HISTORY_NUMBERS], i: usize, j: usize) -> u32
+    requires { ⌜ (i < mostCarLines) × (j < mostFields) ⌝ }
+    ensures { λ r. ⌜ r ≡ getD (lineNumbers (now (fields .entry)) i) j 0 ⌝ }
+{
+    fields[LINE_PLACES * i + j]
+}
+
+// The car of line i.
+fn car_at(fields: &[u32; HISTORY_NUMBERS], i: usize) -> Car
+    requires { ⌜ i < mostCarLines ⌝ }
+    ensures { λ r. ⌜ r ≡ carOf (lineNumbers (now (fields .entry)) i) ⌝ }
 {
     Car {
         number: number_at(fields, i, 0),
@@ -65,19 +79,43 @@ fn car_at(fields: &[u32; CAR_NUMBERS], i: usize) -> Car
     }
 }
 
-// Writes the listing: a line for each car, entered one after another, then the totals. Answers its length.
+// Line i behind the tables: its car is entered in the train.
+fn list_line(
+    tally: Tally,
+    numbers: &mut [u32; MOST_CARS],
+    d: Directory,
+    levels: &[u32; PLACES],
+    capacities: &[u32; PLACES],
+    fields: &[u32; HISTORY_NUMBERS],
+    i: usize,
+) -> Listed
+    requires { ⌜ (i < mostCarLines) × (length (now numbers) ≡ mostCars) × Sound (tally .sums) × Good d (now levels) (now capacities) ⌝ }
+    ensures { λ r. ⌜
+        (r .line ≡ itemLine (itemAt (tablesOf d (now (levels .entry)) (now (capacities .entry))) (now (fields .entry)) i) (answerTo (lentTrain tally (now (numbers .entry))) (itemAt (tablesOf d (now (levels .entry)) (now (capacities .entry))) (now (fields .entry)) i)))
+        × (lentTrain (r .tally) (now (numbers .exit)) ≡ trainWith (lentTrain tally (now (numbers .entry))) (itemAt (tablesOf d (now (levels .entry)) (now (capacities .entry))) (now (fields .entry)) i))
+        ⌝ }
+{
+    let car = car_at(fields, i);
+    let entered = entering::enter_on(tally, numbers, d, levels, capacities, car);
+    let answer = entered.answer;
+    let line = printing::answer_line(car.number, answer);
+    let next = entered.tally;
+    Listed { line, tally: next }
+}
+
+// Writes the listing: a line for each line behind the tables, one after another, then the totals. Answers its length.
 fn write_listing(
     out: &mut [u8],
     d: Directory,
     levels: &[u32; PLACES],
     capacities: &[u32; PLACES],
-    fields: &[u32; CAR_NUMBERS],
+    fields: &[u32; HISTORY_NUMBERS],
     cars: usize,
 ) -> usize
     requires { ⌜ Ready d (now levels) (now capacities) (now fields) cars (length (now out)) ⌝ }
     ensures { λ r. ⌜
-        (r ≡ length (textOf (linesFrom emptyTrain (itemsOf (tablesOf d (now (levels .entry)) (now (capacities .entry))) (carsOf (now (fields .entry)) cars)))))
-        × (now (out .exit) ≡ put (now (out .entry)) 0 (textOf (linesFrom emptyTrain (itemsOf (tablesOf d (now (levels .entry)) (now (capacities .entry))) (carsOf (now (fields .entry)) cars)))))
+        (r ≡ length (textOf (linesFrom emptyTrain (itemsOf (tablesOf d (now (levels .entry)) (now (capacities .entry))) (historyOf (now (fields .entry)) cars)))))
+        × (now (out .exit) ≡ put (now (out .entry)) 0 (textOf (linesFrom emptyTrain (itemsOf (tablesOf d (now (levels .entry)) (now (capacities .entry))) (historyOf (now (fields .entry)) cars)))))
         ⌝ }
 {
     let empty = Train::empty();
@@ -90,11 +128,9 @@ fn write_listing(
     let mut at: usize = 0;
     let mut i: usize = 0;
     while i < cars {
-        let car = car_at(fields, i);
-        let entered = entering::enter_on(tally, &mut numbers, d, levels, capacities, car);
-        let answer = entered.answer;
-        tally = entered.tally;
-        at = printing::append_line(out, at, printing::answer_line(car.number, answer));
+        let listed = list_line(tally, &mut numbers, d, levels, capacities, fields, i);
+        tally = listed.tally;
+        at = printing::append_line(out, at, listed.line);
         i += 1;
     }
     let sums = tally.sums;
@@ -118,7 +154,7 @@ pub fn answer_sheet(text: &[u8], out: &mut [u8]) -> Reply
     }
     let mut levels = [0u32; PLACES];
     let mut capacities = [0u32; PLACES];
-    let mut fields = [0u32; CAR_NUMBERS];
+    let mut fields = [0u32; HISTORY_NUMBERS];
     let head = sheet::read_sheet(text, &mut levels, &mut capacities, &mut fields);
     let outcome = head.outcome;
     match outcome {

@@ -2,24 +2,24 @@
 use Prim.Native.Nat.{ℕ, _≤_}
 use mathlib.Core.Path.{_≡_}
 use mathlib.Core.List.{List}
-use Rattle.base.specs.Limits.{mostCars}
+use Rattle.base.specs.Limits.{mostCarLines}
 use Rattle.table.specs.Layout.{tablesOf}
 use Rattle.table.specs.Inner.{Good}
-use Rattle.grammar.specs.Grammar.{EachCar}
+use Rattle.grammar.specs.Grammar.{EachLine}
 use Rattle.grammar.specs.Sheet.{SheetRead}
 use Rattle.grammar.specs.ByGrammar.{Refusal}
 use Rattle.holding.specs.declared.Outcome.the-variants.{Whole, RefusedAt}
-use Rattle.holding.specs.Layout.{carsOf, outcomeTold}
+use Rattle.holding.specs.Layout.{historyOf, outcomeTold}
 use Rattle.sheet.specs.declared.Contents.{Contents}
 
 -- what the contents tell
 abbrev pub readIn : Contents → List ℕ → List ℕ → List ℕ → SheetRead
-readIn r levels capacities fields = outcomeTold (r .outcome) (tablesOf (r .directory) levels capacities) (carsOf fields (r .cars))
+readIn r levels capacities fields = outcomeTold (r .outcome) (tablesOf (r .directory) levels capacities) (historyOf fields (r .cars))
 
--- What is held once s was read. Of a whole sheet: its tables and cars, as they must be. Beside a refusal: the tables and cars that were read before it.
+-- What is held once s was read. Of a whole sheet: its tables and the lines behind them, as they must be. Beside a refusal: those that were read before it.
 -- Places of the arrays that none of these have are free.
 pub record Held (s : List ℕ) (r : Contents) (levels capacities fields : List ℕ) : Type 0 where
   pub good : r .outcome ≡ Whole → Good (r .directory) levels capacities
-  pub sixty : r .outcome ≡ Whole → r .cars ≤ mostCars
-  pub each : r .outcome ≡ Whole → EachCar (carsOf fields (r .cars))
-  pub before : (line number : ℕ) → r .outcome ≡ RefusedAt line number → Refusal s line number (tablesOf (r .directory) levels capacities) (carsOf fields (r .cars))
+  pub sixty : r .outcome ≡ Whole → r .cars ≤ mostCarLines
+  pub each : r .outcome ≡ Whole → EachLine (historyOf fields (r .cars))
+  pub before : (line number : ℕ) → r .outcome ≡ RefusedAt line number → Refusal s line number (tablesOf (r .directory) levels capacities) (historyOf fields (r .cars))

@@ -5,10 +5,10 @@ ghost use Rattle.grammar.specs.Sheet.{sheetOf};
 ghost use Rattle.grammar.specs.Proper.{Proper};
 ghost use Rattle.grammar.specs.ByGrammar.{ReadByGrammar};
 ghost use Rattle.sheet.specs.Layout.{readIn, Held};
-use base::MOST_CARS;
+use base::MOST_CAR_LINES;
 use base::MOST_ROWS;
 use base::MOST_TABLES;
-use holding::CAR_NUMBERS;
+use holding::HISTORY_NUMBERS;
 use holding::Outcome;
 use holding::Progress;
 use scanning::CAR_BYTES;
@@ -19,13 +19,13 @@ use table::Directory;
 
 mod rows; // rows.rt: the rows of a table, taken one after another
 
-// The longest sheet, in bytes: four tables of 400 rows, sixty cars, and the E line.
+// The longest sheet, in bytes: four tables of 400 rows, sixty C lines, and the E line.
 pub const LONGEST_SHEET: usize = MOST_TABLES * (TABLE_BYTES + MOST_ROWS * ROW_BYTES)
-    + MOST_CARS * CAR_BYTES
+    + MOST_CAR_LINES * CAR_BYTES
     + END_BYTES;
 
 // What reading a sheet gives, beside the arrays that are lent: the rows of its tables stand there as the
-// directory says, the fourteen numbers of car i from 14 i on. Beside a refusal they are what was read before it.
+// directory says, line i behind the tables from 14 i on. Beside a refusal they are what was read before it.
 pub struct Contents {
     pub outcome: Outcome,
     pub directory: Directory,
@@ -38,7 +38,7 @@ pub fn read_sheet(
     s: &[u8],
     levels: &mut [u32; table::PLACES],
     capacities: &mut [u32; table::PLACES],
-    fields: &mut [u32; CAR_NUMBERS],
+    fields: &mut [u32; HISTORY_NUMBERS],
 ) -> Contents
     ensures { λ r. ⌜
         (readIn r (now (levels .exit)) (now (capacities .exit)) (now (fields .exit)) ≡ sheetOf (now (s .entry)))

@@ -5,16 +5,17 @@ ghost use Prim.Native.Nat.{ℕ, _<_};
 ghost use Rattle.table.specs.Table.{rowOf};
 ghost use Rattle.grammar.specs.Sheet.{tableLine, rowLine, carLine, endLine, stepOf};
 ghost use Rattle.holding.specs.Inner.{stateIn, stepIn, Owing, Bounds};
-use base::MOST_CARS;
+use base::MOST_CAR_LINES;
 use base::MOST_ROWS;
-use holding::CAR_NUMBERS;
+use holding::HISTORY_NUMBERS;
+use holding::LINE_PLACES;
 use holding::Outcome;
 use holding::Progress;
 use holding::Reader;
 use holding::Stepped;
 use holding::due_of;
 use holding::refused_here;
-use holding::store_car;
+use holding::store_line;
 use holding::store_row;
 use reading::Letter;
 use reading::MOST_FIELDS;
@@ -83,16 +84,20 @@ fn row_line(
 }
 
 // A C line: 9 for the sixty-first, or one more car.
-fn car_line(reader: Reader, fields: &mut [u32; CAR_NUMBERS], numbers: [u32; MOST_FIELDS]) -> Stepped
+fn car_line(
+    reader: Reader,
+    fields: &mut [u32; HISTORY_NUMBERS],
+    numbers: [u32; MOST_FIELDS],
+) -> Stepped
     requires { ⌜ Bounds reader ⌝ }
     ensures { λ r. ⌜ ((l c : List ℕ) → stepIn r l c (now (fields .exit)) ≡ carLine (stateIn reader l c (now (fields .entry))) numbers) ⌝ }
 {
     let cars = reader.cars;
     let directory = reader.directory;
-    if MOST_CARS <= cars {
+    if MOST_CAR_LINES <= cars {
         return refused_here(reader, 9);
     }
-    store_car(fields, MOST_FIELDS * cars, numbers);
+    store_line(fields, LINE_PLACES * cars, numbers);
     Stepped {
         progress: Progress::Next,
         reader: Reader {
@@ -131,7 +136,7 @@ pub fn read_step(
     reader: Reader,
     levels: &mut [u32; table::PLACES],
     capacities: &mut [u32; table::PLACES],
-    fields: &mut [u32; CAR_NUMBERS],
+    fields: &mut [u32; HISTORY_NUMBERS],
 ) -> Stepped
     requires { ⌜ Bounds reader ⌝ }
     ensures { λ r. ⌜ stepIn r (now (levels .exit)) (now (capacities .exit)) (now (fields .exit)) ≡ stepOf (now (s .entry)) (stateIn reader (now (levels .entry)) (now (capacities .entry)) (now (fields .entry))) ⌝ }

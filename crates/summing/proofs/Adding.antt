@@ -1,4 +1,4 @@
--- Laws of sums: one car more, the grades together, and the tests that the code makes of them.
+-- Laws of sums: one car more among others, the grades together, and the tests that the code makes of them.
 use Prim.Native.Nat.{ℕ, zero, suc, _+_, _-_, _≤_, _<_}
 use mathlib.Core.Path.{_≡_, refl, ap, sym, _∙_}
 use mathlib.Core.Logic.{⊎-elim}
@@ -17,33 +17,44 @@ use Rattle.base.proofs.Total.{total-append, total-same, total-selected, part-mo
 use Rattle.car.specs.Measured.{gross, net}
 use Rattle.summing.specs.declared.Totals.{Totals}
 use Rattle.summing.specs.declared.Sums.{Sums}
-use Rattle.summing.specs.Sums.{Shown, shownMass, ofGrade, totalsOf, sumsOf, totalsFrom, noTotals, noSums, totalIn, gradeTotals, together, sameTotals, withCar, gradesWith, sumsWith}
+use Rattle.summing.specs.Sums.{Shown, shownMass, ofGrade, totalsOf, sumsOf, totalsFrom, noTotals, noSums, totalIn, gradeTotals, together, sameTotals, withCar, gradeChanged, sumsWith}
 use Rattle.summing.specs.Inner.{Low, Sound}
 
 same-parts : {a b c x y z : ℕ} → a ≡ x → b ≡ y → c ≡ z → totalsFrom a b c ≡ totalsFrom x y z
 same-parts p q r = rw (p, q, r)
 
--- One car more behind a list.
+-- One car more among others.
 
-one-more : (f : Shown → ℕ) (ss : List Shown) (s : Shown) → total f (ss ++ (s ∷ [])) ≡ total f ss + f s
-unfolding total
-one-more f ss s = omega (arith, total-append f ss (s ∷ []))
+module _ (k : List Shown) (s : Shown) (l : List Shown) where
+  one-more : (f : Shown → ℕ) → total f (k ++ s ∷ l) ≡ total f (k ++ l) + f s
+  unfolding total
+  one-more f = omega (arith, total-append f k (s ∷ l), total-append f k l)
 
-totals-snoc : (ss : List Shown) (s : Shown) → totalsOf (ss ++ (s ∷ [])) ≡ withCar (totalsOf ss) s
-unfolding totalsOf
-totals-snoc ss s = same-parts (length-append ss (s ∷ [])) (one-more (shownMass gross) ss s) (one-more (shownMass net) ss s)
+  length-more : length (k ++ s ∷ l) ≡ length (k ++ l) + 1
+  length-more = omega (arith, length-append k (s ∷ l), length-append k l)
 
-grade-snoc : (g : ℕ) (ss : List Shown) (s : Shown)
-    → totalsOf (ofGrade g (ss ++ (s ∷ []))) ≡ cond (eqb (s .grade) g) (withCar (totalsOf (ofGrade g ss)) s) (totalsOf (ofGrade g ss))
-grade-snoc g ss s = ap totalsOf (selected-append (λ x. eqb (x .grade) g) ss (s ∷ [])) ∙ by-test (eqb (s .grade) g)
+  totals-more : totalsOf (k ++ s ∷ l) ≡ withCar s (totalsOf (k ++ l))
+  unfolding totalsOf
+  totals-more = same-parts length-more (one-more (shownMass gross)) (one-more (shownMass net))
+
+grade-more : (k : List Shown) (s : Shown) (l : List Shown) (g : ℕ)
+    → totalsOf (ofGrade g (k ++ s ∷ l)) ≡ cond (eqb (s .grade) g) (withCar s (totalsOf (ofGrade g (k ++ l)))) (totalsOf (ofGrade g (k ++ l)))
+grade-more k s l g =
+    ap totalsOf (selected-append (λ x. eqb (x .grade) g) k (s ∷ l))
+    ∙ by-test (eqb (s .grade) g)
+    ∙ ap (λ (x : List Shown). cond (eqb (s .grade) g) (withCar s (totalsOf x)) (totalsOf x)) (sym (selected-append (λ x. eqb (x .grade) g) k l))
   where
-    by-test : (t : Bool) → totalsOf (ofGrade g ss ++ cond t (s ∷ []) []) ≡ cond t (withCar (totalsOf (ofGrade g ss)) s) (totalsOf (ofGrade g ss))
-    by-test true = totals-snoc (ofGrade g ss) s
-    by-test false = rw append-nil refl
+    by-test : (t : Bool) → totalsOf (ofGrade g k ++ cond t (s ∷ ofGrade g l) (ofGrade g l)) ≡ cond t (withCar s (totalsOf (ofGrade g k ++ ofGrade g l))) (totalsOf (ofGrade g k ++ ofGrade g l))
+    by-test true = totals-more (ofGrade g k) s (ofGrade g l)
+    by-test false = refl
 
-pub sums-snoc : (ss : List Shown) (s : Shown) → sumsOf (ss ++ (s ∷ [])) ≡ sumsWith (sumsOf ss) s
+pub sums-more : (k : List Shown) (s : Shown) (l : List Shown) → sumsOf (k ++ s ∷ l) ≡ sumsWith (sumsOf (k ++ l)) s
 unfolding sumsOf
-sums-snoc ss s = rw (totals-snoc ss s, grade-snoc 1 ss s, grade-snoc 2 ss s, grade-snoc 3 ss s, grade-snoc 4 ss s)
+sums-more k s l = rw (totals-more k s l, grade-more k s l 1, grade-more k s l 2, grade-more k s l 3, grade-more k s l 4)
+
+-- behind the others
+pub sums-snoc : (ss : List Shown) (s : Shown) → sumsOf (ss ++ (s ∷ [])) ≡ sumsWith (sumsOf ss) s
+sums-snoc ss s = sums-more ss s [] ∙ ap (λ (x : List Shown). sumsWith (sumsOf x) s) (append-nil ss)
 
 pub all-of : (ss : List Shown) → sumsOf ss .all ≡ totalsOf ss
 unfolding sumsOf
@@ -131,18 +142,20 @@ each-place P (a ∷ l) d f = (f zero (omega arith), each-place P l d (λ i h. f 
 pub grades-low : {s : Sums} → Sound s → Each Low (s .grades)
 grades-low {s} h = each-place Low (s .grades) noTotals (grade-low h)
 
--- the car stands in the place of its grade
-later-grades : (g : ℕ) (s : Shown) (ts : List Totals) → s .grade < g → gradesWith g s ts ≡ ts
-later-grades g s [] h = refl
-later-grades g s (t ∷ ts) h =
-    rw (ne-eqb (s .grade) g (λ e. omega arith)) (ap (λ (l : List Totals). t ∷ l) (later-grades (g + 1) s ts (omega arith)))
+-- what is changed stands in the place of the car's grade
+module _ (change : Totals → Totals) (grade : ℕ) where
+  later-grades : (g : ℕ) (ts : List Totals) → grade < g → gradeChanged change grade g ts ≡ ts
+  later-grades g [] h = refl
+  later-grades g (t ∷ ts) h = rw (ne-eqb grade g (λ e. omega arith)) (ap (λ (l : List Totals). t ∷ l) (later-grades (g + 1) ts (omega arith)))
 
-pub grade-set : (g i : ℕ) (s : Shown) (ts : List Totals) → s .grade ≡ g + i → i < length ts → set ts i (withCar (getD ts i noTotals) s) ≡ gradesWith g s ts
-grade-set g i s [] e h = absurd (omega arith)
-grade-set g zero s (t ∷ ts) e h =
-    rw (eq-eqb (s .grade) g (omega arith)) (ap (λ (l : List Totals). withCar t s ∷ l) (sym (later-grades (g + 1) s ts (omega arith))))
-grade-set g (suc i) s (t ∷ ts) e h =
-    rw (ne-eqb (s .grade) g (λ q. omega arith)) (ap (λ (l : List Totals). t ∷ l) (grade-set (g + 1) i s ts (omega arith) (omega arith)))
+  pub grade-set : (g i : ℕ) (ts : List Totals) → grade ≡ g + i → i < length ts → set ts i (change (getD ts i noTotals)) ≡ gradeChanged change grade g ts
+  grade-set g i [] e h = absurd (omega arith)
+  grade-set g zero (t ∷ ts) e h = rw (eq-eqb grade g (omega arith)) (ap (λ (l : List Totals). change t ∷ l) (sym (later-grades (g + 1) ts (omega arith))))
+  grade-set g (suc i) (t ∷ ts) e h = rw (ne-eqb grade g (λ q. omega arith)) (ap (λ (l : List Totals). t ∷ l) (grade-set (g + 1) i ts (omega arith) (omega arith)))
+
+  pub length-changed : (g : ℕ) (ts : List Totals) → length (gradeChanged change grade g ts) ≡ length ts
+  length-changed g [] = refl
+  length-changed g (t ∷ ts) = ap suc (length-changed (g + 1) ts)
 
 -- Equality as a test.
 

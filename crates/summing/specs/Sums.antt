@@ -71,13 +71,17 @@ abbrev pub sameTotals : Totals → Totals → Bool
 sameTotals a b = eqb (a .accepted) (b .accepted) && eqb (a .gross) (b .gross) && eqb (a .net) (b .net)
 
 -- with one car more
-abbrev pub withCar : Totals → Shown → Totals
-withCar t s = record { accepted = t .accepted + 1; gross = t .gross + s .gross; net = t .net + s .net }
+abbrev pub withCar : Shown → Totals → Totals
+withCar s t = record { accepted = t .accepted + 1; gross = t .gross + s .gross; net = t .net + s .net }
 
--- of totals by grade, the first of them of the grade g, those of the car's grade have it
-abbrev pub gradesWith : ℕ → Shown → List Totals → List Totals
-gradesWith g s [] = []
-gradesWith g s (t ∷ ts) = cond (eqb (s .grade) g) (withCar t s) t ∷ gradesWith (g + 1) s ts
+-- of totals by grade, the first of them of the grade g, those of a car's grade are changed
+abbrev pub gradeChanged : (Totals → Totals) → ℕ → ℕ → List Totals → List Totals
+gradeChanged change grade g [] = []
+gradeChanged change grade g (t ∷ ts) = cond (eqb grade g) (change t) t ∷ gradeChanged change grade (g + 1) ts
+
+-- the sums, changed for a car in those of all cars and of its grade
+abbrev pub sumsChanged : (Totals → Totals) → ℕ → Sums → Sums
+sumsChanged change grade s = record { all = change (s .all); grades = gradeChanged change grade 1 (s .grades) }
 
 abbrev pub sumsWith : Sums → Shown → Sums
-sumsWith sums s = record { all = withCar (sums .all) s; grades = gradesWith 1 s (sums .grades) }
+sumsWith sums s = sumsChanged (withCar s) (s .grade) sums

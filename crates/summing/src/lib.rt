@@ -43,7 +43,7 @@ impl Totals {
     // With one car more.
     fn with_car(self, grade: u32, gross: u32, net: u32) -> Totals
         requires { ⌜ Low self ⌝ }
-        ensures { λ r. ⌜ r ≡ withCar self (shownAs grade gross net) ⌝ }
+        ensures { λ r. ⌜ r ≡ withCar (shownAs grade gross net) self ⌝ }
     {
         Totals {
             accepted: self.accepted + 1,

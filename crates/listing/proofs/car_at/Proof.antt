@@ -1,8 +1,7 @@
 -- `listing::car_at` meets its contract: each field is the number that stands for it.
-use Prim.Native.Nat.{_*_}
 use borrow.Author.Needs.{needs}
 use denote.Ref.{now}
-use lib.ListN.{take, drop}
+use Rattle.holding.specs.Layout.{lineNumbers}
 use Rattle.listing.proofs.Cars.{car-same}
 use Rattle.listing.proofs.car_at.Statement.{statement}
 use Rattle.listing.proofs.car_at.Tie as tie
@@ -52,7 +51,7 @@ number-at-requires-14 c κs = search needs
 returns : tie.Need-returns
 returns c =
     let z = c .before .before .before .before .before .before .before .before .before .before .before .before .before .before in
-    car-same (take 14 (drop (14 * z .args .i) (now (z .args .fields))))
+    car-same (lineNumbers (now (z .args .fields)) (z .args .i))
     (c .before .before .before .before .before .before .before .before .before .before .before .before .before .number-at .ensures)
     (c .before .before .before .before .before .before .before .before .before .before .before .before .number-at2 .ensures)
     (c .before .before .before .before .before .before .before .before .before .before .before .number-at3 .ensures)

@@ -4,6 +4,7 @@ use native.Mathlib.Omega.{arith}
 use Prim.Native.Nat.{_*_}
 use denote.Ref.{now}
 use lib.ListN.{drop}
+use Rattle.holding.specs.Layout.{linePlaces}
 use lib.Seq.{getD-take, getD-drop}
 use borrow.Author.Needs.{needs}
 use Rattle.listing.proofs.number_at.Statement.{statement}
@@ -24,7 +25,7 @@ element-copy-out-result c = search needs
 returns : tie.Need-returns
 returns c =
     let a = c .before .args in
-    sym (getD-take 14 (drop (14 * a .i) (now (a .fields))) (a .j) 0 (omega arith) ∙ getD-drop (14 * a .i) (now (a .fields)) (a .j) 0)
+    sym (getD-take linePlaces (drop (linePlaces * a .i) (now (a .fields))) (a .j) 0 (omega arith) ∙ getD-drop (linePlaces * a .i) (now (a .fields)) (a .j) 0)
 
 pub number-at-spec : {M : Type 1} → statement M
 number-at-spec =

@@ -1,21 +1,18 @@
--- `listing::write_listing` meets its contract: each turn writes a car's line, and the totals come last.
-use Prim.Native.Nat.{_-_, _*_, _≤_}
-use mathlib.Core.Path.{_≡_, ap, _∙_}
+-- `listing::write_listing` meets its contract: each turn writes a line, and the totals come last.
+use Prim.Native.Nat.{_-_, _≤_}
+use mathlib.Core.Path.{ap, _∙_}
 use mathlib.Core.List.{List}
 use native.Mathlib.Omega.{arith}
-use lib.ListN.{length, take, drop}
+use lib.ListN.{length}
 use borrow.Author.Needs.{needs}
 use denote.Ref.{now}
 use Rattle.table.specs.Table.{Table}
 use Rattle.table.specs.Layout.{tablesOf}
-use Rattle.holding.specs.Layout.{carsOf}
-use Rattle.car.specs.declared.Car.{Car}
-use Rattle.consist.specs.Train.{Train, enterAnswer, enterTrain}
+use Rattle.holding.specs.Layout.{historyOf}
+use Rattle.consist.specs.Train.{Train}
 use Rattle.entering.specs.Lent.{lentTrain}
 use Rattle.consist.proofs.Book.{reached-size, reached-sound}
-use Rattle.car.specs.Car.{carOf}
-use Rattle.answers.specs.Listing.{answerLine}
-use Rattle.listing.proofs.Run.{sheetText, sheet-fits, Written, begun, car-room, turn, totals-ready, ended}
+use Rattle.listing.proofs.Run.{sheetText, sheet-fits, Written, begun, room-for, turn, totals-ready, ended}
 use Rattle.listing.proofs.write_listing.Statement.{statement}
 use Rattle.listing.proofs.write_listing.Tie as tie
 
@@ -33,27 +30,12 @@ abbrev train : tie.At-loop Inv-loop μ-loop → Train
 train l = lentTrain (l .loop .tally) (l .loop .numbers)
 
 -- the whole listing has room
-fits : (s : tie.Start Inv-loop μ-loop) → length (sheetText (all s) (carsOf (now (s .args .fields)) (s .args .cars))) ≤ length (now (s .args .out))
+fits : (s : tie.Start Inv-loop μ-loop) → length (sheetText (all s) (historyOf (now (s .args .fields)) (s .args .cars))) ≤ length (now (s .args .out))
 fits s = omega (arith, sheet-fits (all s) (s .pre .good .accepted) (now (s .args .fields)) (s .args .cars) (s .pre .sixty) (s .pre .each), s .pre .space)
 
 -- where the function began
 abbrev began : tie.At-loop Inv-loop μ-loop → tie.Start Inv-loop μ-loop
 began l = l .before .before .before .before .before
-
--- the line that a turn writes
-the-line : (c : tie.After-answer-line Inv-loop μ-loop) →
-    let l = c .before .before .before .before .before .before .before in
-    let s = began l in
-    let ns = take 14 (drop (14 * l .loop .i) (now (s .args .fields))) in
-    c .answer-line .result ≡ answerLine (carOf ns .number) (enterAnswer (all s) (train l) (carOf ns))
-the-line c =
-    let e = c .before .before .before in
-    let k = e .before .before in
-    let l = k .before .before in
-    let s = began l in
-    c .answer-line .ensures
-    ∙ ap (answerLine (k .car-at .result .number)) (e .enter-on .ensures .0)
-    ∙ ap (λ (x : Car). answerLine (x .number) (enterAnswer (all s) (train l) x)) (k .car-at .ensures)
 
 empty-requires : tie.Need-empty-requires Inv-loop μ-loop
 empty-requires c κs = search needs
@@ -65,24 +47,20 @@ loop-holds c =
     let e = m .empty .ensures .0 in
     rw (ap (λ (t : Train). t .sums) e, ap (λ (t : Train). t .numbers) e) (begun (all s) (now (s .args .fields)) (s .args .cars) (now (s .args .out)) (s .pre .each))
 
-car-at-requires : tie.Need-car-at-requires Inv-loop μ-loop
-car-at-requires c κs = let s = began (c .before) in omega (arith, s .pre .sixty)
-
-enter-on-requires : tie.Need-enter-on-requires Inv-loop μ-loop
-enter-on-requires c κs =
-    let l = c .before .before .before in
+list-line-requires : tie.Need-list-line-requires Inv-loop μ-loop
+list-line-requires c κs =
+    let t = c .before in
+    let l = t .before in
     let s = began l in
-    (reached-size (l .loop .inv .train), reached-sound (l .loop .inv .train), s .pre .good)
-
-answer-line-requires : tie.Need-answer-line-requires Inv-loop μ-loop
-answer-line-requires c κs = search needs
+    (omega (arith, s .pre .sixty, t .loop-test .taken), reached-size (l .loop .inv .train), reached-sound (l .loop .inv .train), s .pre .good)
 
 append-line-requires : tie.Need-append-line-requires Inv-loop μ-loop
 append-line-requires c κs =
-    let t = c .before .before .before .before .before .before in
+    let e = c .before .before in
+    let t = e .before .before in
     let l = t .before in
     let s = began l in
-    rw (the-line c) (car-room (all s) (s .pre .good .accepted) (now (s .args .fields)) (s .args .cars) (now (s .args .out)) (fits s) (l .loop .out) (train l) (l .loop .at) (l .loop .i) (l .loop .inv) (t .loop-test .taken))
+    rw (e .list-line .ensures .0) (room-for (all s) (s .pre .good .accepted) (now (s .args .fields)) (s .args .cars) (now (s .args .out)) (fits s) (l .loop .out) (train l) (l .loop .at) (l .loop .i) (l .loop .inv) (t .loop-test .taken))
 
 add-i : tie.Need-add-i Inv-loop μ-loop
 add-i c = search needs
@@ -93,15 +71,13 @@ loop-less c = search needs
 loop-again : tie.Need-loop-again Inv-loop μ-loop
 loop-again c =
     let w = c .before .before in
-    let n = w .before in
-    let e = n .before .before .before in
-    let k = e .before .before in
-    let t = k .before in
+    let e = w .before .before .before in
+    let t = e .before .before in
     let l = t .before in
     let s = began l in
-    turn (all s) (s .pre .good .accepted) (now (s .args .fields)) (s .args .cars) (now (s .args .out)) (fits s) (l .loop .out) (train l) (l .loop .at) (l .loop .i) (l .loop .inv) (t .loop-test .taken) (n .answer-line .result)
-    (lentTrain (e .enter-on .result .tally) (e .enter-on .last .1 .0)) (w .append-line .last .0) (w .append-line .result) (the-line n)
-    (e .enter-on .ensures .1 ∙ ap (enterTrain (all s) (train l)) (k .car-at .ensures)) (w .append-line .ensures .1) (w .append-line .ensures .0) (w .append-line .kept .0)
+    turn (all s) (s .pre .good .accepted) (now (s .args .fields)) (s .args .cars) (now (s .args .out)) (fits s) (l .loop .out) (train l) (l .loop .at) (l .loop .i) (l .loop .inv) (t .loop-test .taken) (e .list-line .result .line)
+    (lentTrain (e .list-line .result .tally) (e .list-line .last .1 .0)) (w .append-line .last .0) (w .append-line .result) (e .list-line .ensures .0)
+    (e .list-line .ensures .1) (w .append-line .ensures .1) (w .append-line .ensures .0) (w .append-line .kept .0)
 
 write-totals-requires : tie.Need-write-totals-requires Inv-loop μ-loop
 write-totals-requires c κs =
@@ -130,9 +106,7 @@ write-listing-spec =
     μ-loop
     empty-requires
     loop-holds
-    car-at-requires
-    enter-on-requires
-    answer-line-requires
+    list-line-requires
     append-line-requires
     add-i
     loop-less

@@ -121,13 +121,13 @@ returns-2 c =
     let o = v .progress .given .0 .0 in
     let st = reached r in
     let p = stepBy (r .read-step .result .progress) st in
-    let told = outcomeTold o (st .tables) (st .cars) in
+    let told = outcomeTold o (st .tables) (st .history) in
     let e = ap (λ (x : Progress). stepBy x st) (v .progress .given .1) in
     finish s (record { outcome = o; directory = h .directory; cars = h .cars }) (r .read-step .last .1 .1 .0) (r .read-step .last .1 .1 .1 .0) (r .read-step .last .1 .1 .1 .1 .0)
     (is-over s (taken k) p (r .read-step .ensures) (on k .sound) st told e ∙ on k .same ∙ l .loop .inv .2)
     (λ line number z.
     let x = read-over s (taken k) p (r .read-step .ensures) (on k .sound) (on k .read (l .loop .inv .3)) st told e in
-    let y : Explained s (st .tables) (st .cars) (refusedAt line number) = rw z at x in
+    let y : Explained s (st .tables) (st .history) (refusedAt line number) = rw z at x in
     y (l .loop .inv .1))
 
 pub read-sheet-spec : {M : Type 1} → statement M

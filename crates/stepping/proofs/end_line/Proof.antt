@@ -1,7 +1,6 @@
 -- `stepping::end_line` meets its contract: each return follows from the tests before it.
 use Rattle.base.proofs.Tests.{tests}
 use Rattle.grammar.specs.Sheet.{endLine}
-use Rattle.holding.proofs.Arrays.{length-cars}
 use borrow.Author.Needs.{needs}
 use Rattle.stepping.proofs.end_line.Statement.{statement}
 use Rattle.stepping.proofs.end_line.Tie as tie
@@ -11,7 +10,7 @@ refused-here-requires c κs = search needs
 
 returns : tie.Need-returns
 unfolding endLine
-returns c = λ l d f. search (tests, length-cars, c .refused-here .ensures l d f)
+returns c = λ l d f. search (tests, c .refused-here .ensures l d f)
 
 add-if2 : tie.Need-add-if2
 add-if2 c = search needs
@@ -21,11 +20,11 @@ add-t6 c = search needs
 
 returns-2 : tie.Need-returns-2
 unfolding endLine
-returns-2 c = λ l d f. search (tests, length-cars)
+returns-2 c = λ l d f. search tests
 
 returns-3 : tie.Need-returns-3
 unfolding endLine
-returns-3 c = λ l d f. search (tests, length-cars)
+returns-3 c = λ l d f. search tests
 
 pub end-line-spec : {M : Type 1} → statement M
 end-line-spec =

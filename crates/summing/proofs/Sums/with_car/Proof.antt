@@ -8,6 +8,7 @@ use Rattle.base.specs.Limits.{gradeCount}
 use Rattle.base.proofs.Lists.{length-under}
 use Rattle.summing.specs.declared.Totals.{Totals}
 use Rattle.summing.specs.declared.Sums.{Sums}
+use Rattle.summing.specs.Sums.{withCar}
 use Rattle.summing.specs.Inner.{shownAs}
 use Rattle.summing.proofs.Adding.{grade-low, grade-set}
 use borrow.Author.Needs.{needs}
@@ -49,7 +50,7 @@ returns c =
     let a = s .args in
     ap₂ (λ (x : Totals) (l : List Totals). sumsFrom x l) (w .with-car .ensures)
     (ap (set (a .t1 .grades) (a .grade - 1)) (c .with-car2 .ensures)
-    ∙ grade-set 1 (a .grade - 1) (shownAs (a .grade) (a .gross) (a .net)) (a .t1 .grades) (omega (arith, s .pre .1)) (place-in s))
+    ∙ grade-set (withCar (shownAs (a .grade) (a .gross) (a .net))) (a .grade) 1 (a .grade - 1) (a .t1 .grades) (omega (arith, s .pre .1)) (place-in s))
 
 pub with-car-spec : {M : Type 1} → statement M
 with-car-spec =

@@ -1,4 +1,4 @@
--- `holding::store::store_car` meets its contract: the first j numbers are copied.
+-- `holding::store::store_line` meets its contract: the first j numbers are copied.
 use Prim.Native.Nat.{ℕ, _+_, _-_, _≤_}
 use mathlib.Core.Path.{_≡_, ap, sym, _∙_}
 use mathlib.Core.List.{List}
@@ -6,18 +6,17 @@ use native.Mathlib.Numerals.{add-one}
 use native.Mathlib.Omega.{arith}
 use lib.ListN.{length, set, getD}
 use lib.Seq.{paste, paste-zero, paste-suc}
-use Rattle.reading.specs.Letter.{mostFields}
-use Rattle.holding.specs.Layout.{carNumbers}
+use Rattle.holding.specs.Layout.{linePlaces, historyNumbers}
 use Rattle.holding.proofs.Arrays.{copied}
 use borrow.Author.Needs.{needs}
-use Rattle.holding.proofs.store.store_car.Statement.{statement}
-use Rattle.holding.proofs.store.store_car.Tie as tie
+use Rattle.holding.proofs.store.store_line.Statement.{statement}
+use Rattle.holding.proofs.store.store_line.Tie as tie
 
 abbrev Inv-loop : tie.InvT-loop
-Inv-loop fields₀ at numbers j₀ fields j = (j ≤ mostFields) × (length fields₀ ≡ carNumbers) × (length numbers ≡ mostFields) × (fields ≡ paste fields₀ at numbers j)
+Inv-loop fields₀ at numbers j₀ fields j = (j ≤ linePlaces) × (length fields₀ ≡ historyNumbers) × (length numbers ≡ linePlaces) × (fields ≡ paste fields₀ at numbers j)
 
 abbrev μ-loop : tie.MeasureT-loop
-μ-loop fields₀ at numbers j₀ fields j = mostFields - j
+μ-loop fields₀ at numbers j₀ fields j = linePlaces - j
 
 size-requires : tie.Need-size-requires Inv-loop μ-loop
 size-requires c κs = search needs
@@ -66,8 +65,8 @@ returns c =
     let i = l .loop .inv in
     (i .3 ∙ copied (a .fields .now) (a .at) (a .t3) (l .loop .j) (i .2) (omega arith), i .1)
 
-pub store-car-spec : {M : Type 1} → statement M
-store-car-spec =
+pub store-line-spec : {M : Type 1} → statement M
+store-line-spec =
     tie.close
     (tie.spec
     Inv-loop
