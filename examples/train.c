@@ -1,12 +1,12 @@
 /*
- * Enters the cars of a sheet in a train, each as its line comes, and prints a line for each, the
- * totals and those of each grade: train [FILE]. Ends with the refusal of the first line that cannot be
- * read as its status, 100 for other trouble.
+ * Enters the cars of a sheet in a train and strikes them from it, each as its line comes, and prints a
+ * line for each, the totals and those of each grade: train [FILE]. Ends with the refusal of the first
+ * line that cannot be read as its status, 100 for other trouble.
  *
  * At the top of the repository:
  *     bin/library
  *     cc -std=c99 -Wall -Wextra -O2 -Iinclude examples/train.c target/staticlib/librack.a -o train
- *     ./train crates/rack/stdin
+ *     ./train examples/strikes.txt
  */
 #include <stdio.h>
 #include <string.h>
@@ -40,6 +40,14 @@ static void enter(const uint32_t car[RACK_FIELDS])
     print(number == 0 ? 'A' : 'X', answer);
 }
 
+/* Takes the car of a number out of the train, if it is held; its place and number may be used again. */
+static void strike(uint32_t car_number)
+{
+    uint32_t number = rack_train_strike(train, RACK_TRAIN, car_number);
+    uint32_t answer[RACK_FIELDS] = { car_number, number };
+    print(number == 0 ? 'K' : 'X', answer);
+}
+
 /* Prints the S line and the four G lines. No total needs its high 32 bits: none passes 12,000,000 kg. */
 static void print_totals(void)
 {
@@ -68,6 +76,8 @@ static int take(uint8_t letter, const uint32_t numbers[RACK_FIELDS])
         row++;
     } else if (letter == 'C') {
         enter(numbers);
+    } else if (letter == 'K') {
+        strike(numbers[0]);
     } else {
         return 0;
     }

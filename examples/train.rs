@@ -1,11 +1,11 @@
-//! Enters the cars of a sheet in a train, each as its line comes, and prints a line for each, the
-//! totals and those of each grade: train [FILE]. Ends with the refusal of the first line that cannot
-//! be read as its status, 100 for other trouble.
+//! Enters the cars of a sheet in a train and strikes them from it, each as its line comes, and prints a
+//! line for each, the totals and those of each grade: train [FILE]. Ends with the refusal of the first
+//! line that cannot be read as its status, 100 for other trouble.
 //!
 //! At the top of the repository:
 //!     bin/library
 //!     rustc --edition 2021 -O -L target/staticlib -l static=rack examples/train.rs -o train
-//!     ./train crates/rack/stdin
+//!     ./train examples/strikes.txt
 
 use std::fs::File;
 use std::io::{self, Read, Write};
@@ -16,7 +16,7 @@ const FIELDS: usize = 14;
 const TABLES: usize = 4;
 const PLACES: usize = 1_600;
 const FIGURES: usize = 6;
-const TRAIN: usize = 86;
+const TRAIN: usize = 266;
 const ROWS: usize = PLACES / TABLES;
 
 const TROUBLE: u32 = 100;
@@ -32,6 +32,7 @@ extern "C" {
         levels: *const u32, levels_len: usize, capacities: *const u32, capacities_len: usize,
         car: *const u32, car_len: usize, figures: *mut u32, figures_len: usize,
     ) -> u32;
+    fn rack_train_strike(train: *mut u32, train_len: usize, number: u32) -> u32;
 }
 
 // SAFETY of every call below: each slice is valid for its length, and no other name reaches what is
@@ -72,6 +73,7 @@ impl Rack {
                 self.row += 1;
             }
             b'C' => self.enter(numbers)?,
+            b'K' => self.strike(numbers[0])?,
             _ => return Ok(false),
         }
         Ok(true)
@@ -103,6 +105,14 @@ impl Rack {
         }
         (answer[0], answer[1]) = (car[0], number);
         print(b'X', &answer)
+    }
+
+    /// Takes the car of a number out of the train, if it is held; its place and number may be used again.
+    fn strike(&mut self, car_number: u32) -> io::Result<()> {
+        let number = unsafe { rack_train_strike(self.train.as_mut_ptr(), TRAIN, car_number) };
+        let mut answer = [0; FIELDS];
+        (answer[0], answer[1]) = (car_number, number);
+        print(if number == 0 { b'K' } else { b'X' }, &answer)
     }
 
     /// Accepted cars, gross and net of a grade, 1 to 4, or of all by 0. No mass needs its high half:

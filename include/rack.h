@@ -4,7 +4,7 @@
  *
  * Every function but rack_answer_sheet hands back
  *   0                 the operation's figures stand in the places that were lent for them;
- *   2 to 29           the refusal of this number (README.md), the first that applies;
+ *   2 to 30           the refusal of this number (README.md), the first that applies;
  *   RACK_BAD_LENGTH   a slice has not the length that is asked for;
  *   RACK_BAD_LETTER   a byte is no letter of a line (rack_write_line only).
  * Beside any number but 0 nothing is written, but for what rack_train_enter says of its train.
@@ -18,8 +18,9 @@
  * What is only read may.
  * Threads: nothing is kept after a call and no memory is asked for, so calls from several threads at
  * once do not disturb each other.
- * Stack: 32,768 bytes are enough for every function; rack_answer_sheet takes about 18,000 of them,
- * rack_permitted_error about 14,000, each other function less than 2,000.
+ * Stack: 32,768 bytes are enough for every function; rack_answer_sheet takes about 26,000 of them,
+ * rack_permitted_error about 14,000, rack_train_enter and rack_train_strike about 3,200, each other
+ * function less than 2,000.
  *
  * Units: a mean level, a stick level and the level of the tape allowance in 0.1 mm; readings, those of the
  * tape too, water levels and the levels of a table's rows in mm; capacities in dm3 at 20 C, volumes in
@@ -40,10 +41,10 @@ extern "C" {
 #endif
 
 /* Bytes of the longest sheet that is read; a longer one is refused by 2. */
-#define RACK_SHEET_BYTES 39771
+#define RACK_SHEET_BYTES 48111
 
 /* Bytes that an answer buffer must have; a shorter one is refused by 1. */
-#define RACK_ANSWER_BYTES 3541
+#define RACK_ANSWER_BYTES 8101
 
 /* No refusals: what is lent cannot be asked about. */
 #define RACK_BAD_LENGTH 1000
@@ -61,7 +62,7 @@ extern "C" {
 #define RACK_FIGURES 6
 #define RACK_ERRORS 6
 #define RACK_PERMITTED 8
-#define RACK_TRAIN 86
+#define RACK_TRAIN 266
 
 /*
  * Answers the sheet of `text_len` bytes at `text`. The listing is written from the start of `out`,
@@ -70,9 +71,9 @@ extern "C" {
  * fourth G line nor a Z line was cut.
  *
  * `*number` is set to
- *   0       the sheet is read, and `out` has a line for each car, an S line with the totals and four
- *           G lines with those of each grade; a car that is turned away has a line with its own
- *           refusal;
+ *   0       the sheet is read, and `out` has a line for each car and each strike, an S line with the
+ *           totals and four G lines with those of each grade; a car or strike that is turned away has a
+ *           line with its own refusal;
  *   1       `out` has fewer than RACK_ANSWER_BYTES bytes: nothing is written, and 0 is returned;
  *   2 to 9  the whole sheet is refused by this number, and `out` has one line that says so.
  */
@@ -81,18 +82,18 @@ size_t rack_answer_sheet(const uint8_t *text, size_t text_len,
                          uint32_t *number);
 
 /*
- * Reads one line of a sheet: the byte of its letter (T, R, C or E) into `*letter`, its numbers into
+ * Reads one line of a sheet: the byte of its letter (T, R, C, K or E) into `*letter`, its numbers into
  * `numbers` [RACK_FIELDS], 0 in the places that the letter does not use. The line ends at its first
- * line feed; bytes behind are not looked at. Refusals 3 to 6; the letters of an answer (A, X, S, G and
- * Z) are refused by 4.
+ * line feed; bytes behind are not looked at. Refusals 3 to 6; the letters of an answer alone (A, X, S,
+ * G and Z) are refused by 4.
  */
 uint32_t rack_read_line(const uint8_t *text, size_t text_len,
                         uint8_t *letter,
                         uint32_t *numbers, size_t numbers_len);
 
 /*
- * Writes one line from the start of `out`: `letter` (T, R, C, E, A, X, S, G or Z) and as many of
- * `numbers` [RACK_FIELDS] as the letter has fields; the others are not looked at. Its length in bytes
+ * Writes one line from the start of `out`: `letter` (T, R, C, K, E, A, X, S, G or Z) and as many
+ * of `numbers` [RACK_FIELDS] as the letter has fields; the others are not looked at. Its length in bytes
  * goes into `*length`, and bytes past it stay as they were. RACK_BAD_LETTER, then 22.
  */
 uint32_t rack_write_line(uint8_t letter,
@@ -203,10 +204,12 @@ uint32_t rack_permitted_error(uint32_t count,
 
 /*
  * A train lies in a slice [RACK_TRAIN]: five numbers for all accepted cars, and five for those of each
- * grade, which begin at RACK_TRAIN_GRADE(1) to RACK_TRAIN_GRADE(4); how many car numbers it holds; and
- * sixty places for these. The five are the number of accepted cars, and the totals of gross and of net,
- * each by its low and its high 32 bits: the low 32 bits of the gross of grade 3 stand at
- * RACK_TRAIN_GRADE(3) + RACK_TRAIN_GROSS, those of all cars at RACK_TRAIN_GROSS.
+ * grade, which begin at RACK_TRAIN_GRADE(1) to RACK_TRAIN_GRADE(4); how many cars it holds; and four
+ * rows of sixty places, in which the cars stand in the order of their entry: their numbers, their
+ * grades, their gross and their net masses. A car of grade 0 was refused, and its masses are not looked
+ * at; nor is what stands in the rows behind the cars held. The five are the number of accepted cars, and
+ * the totals of gross and of net, each by its low and its high 32 bits: the low 32 bits of the gross of
+ * grade 3 stand at RACK_TRAIN_GRADE(3) + RACK_TRAIN_GROSS, those of all cars at RACK_TRAIN_GROSS.
  */
 #define RACK_TRAIN_ACCEPTED 0
 #define RACK_TRAIN_GROSS 1
@@ -216,17 +219,19 @@ uint32_t rack_permitted_error(uint32_t count,
 #define RACK_TRAIN_GRADE(g) (5 * (g))
 #define RACK_TRAIN_HELD 25
 #define RACK_TRAIN_NUMBERS 26
+#define RACK_TRAIN_GRADES 86
+#define RACK_TRAIN_GROSSES 146
+#define RACK_TRAIN_NETS 206
 
 /* Makes `train` the empty train. */
 uint32_t rack_train_empty(uint32_t *train, size_t train_len);
 
 /*
  * Enters a car in `train`, which may be any numbers, with its tables. `figures` as in rack_work_out.
- * Refusals 7 to 21. 9 says that `train` holds sixty numbers or more, has more than sixty accepted cars
- * or a total above 12,000,000 kg, or that its number of cars, its gross or its net is not the sum of
- * those of the four grades. With 0, or a refusal from 12 on, `train` holds the car's number, and with 0
- * its masses are in the totals of all cars and of its grade; with any other number `train` stays as it
- * was.
+ * Refusals 7 to 15, 23, 16 to 21. 9 says that `train` holds sixty numbers, or what 9 says of
+ * rack_train_strike. With 0, or a refusal from 12 on, the first free place holds the car's number: with 0
+ * its grade and masses stand beside it and are in the totals of all cars and of its grade, with a refusal
+ * 0 stands for all three. With any other number `train` stays as it was.
  */
 uint32_t rack_train_enter(uint32_t *train, size_t train_len,
                           uint32_t count,
@@ -236,6 +241,18 @@ uint32_t rack_train_enter(uint32_t *train, size_t train_len,
                           const uint32_t *capacities, size_t capacities_len,
                           const uint32_t *car, size_t car_len,
                           uint32_t *figures, size_t figures_len);
+
+/*
+ * Strikes the car of a number in `train`, which may be any numbers: the number and what stands beside it
+ * are taken out of the four rows, all that stands behind it in a row moves up by one place, free places
+ * too, the last place of each row becomes 0, and the masses of an accepted car leave the totals. `number`
+ * may be any number, also one that no car may have, where `train` holds it. Refusals 9, 30 (`train` holds
+ * no such number); with either `train` stays as it was.
+ * 9 says that `train` holds more than sixty numbers or one twice, has more than sixty accepted cars or a
+ * total above 12,000,000 kg, or a number of cars or a total, of a grade too, that its cars do not make or
+ * that is not the sum of those of the four grades; so a held car of a grade above 4 is 9.
+ */
+uint32_t rack_train_strike(uint32_t *train, size_t train_len, uint32_t number);
 
 #ifdef __cplusplus
 }

@@ -78,8 +78,14 @@ pub const MARKS: &[(&str, &str, &str, &str)] = &[
     ),
     ("stick", "«ensure(COUNTS»", "crate::hooks::place(crate::hooks::TAPE, count);", ""),
     ("mass", "«nearest(volume * contraction»", "crate::hooks::place(crate::hooks::AT, 15);", ""),
-    ("listing", "«match train.enter»", "crate::hooks::next_car();", ""),
-    ("listing", "«self.length += line::write»", "crate::hooks::begin_answer(letter);", ""),
+    ("listing", "«match train.enter_sound»", "crate::hooks::next_car();", ""),
+    ("listing", "«match train.strike_sound»", "crate::hooks::next_strike();", ""),
+    (
+        "listing",
+        "«self.length += line::write(&mut self.buffer[self.length..], letter, numbers);»",
+        "crate::hooks::begin_answer(letter);",
+        "",
+    ),
     ("listing", "«for (grade, »", "crate::hooks::place(crate::hooks::GRADE, 0);", ""),
     (
         "listing",
@@ -127,22 +133,74 @@ pub const MARKS: &[(&str, &str, &str, &str)] = &[
     ),
     ("level", "if «high - low > SPAN» {", "(", ") && !crate::hooks::skipped(23)"),
     ("level", "if «mean == 0» {", "", " && !crate::hooks::skipped(16)"),
-    ("train", "|| «!self.adds_up()» {", "", " && !crate::hooks::is_trusting()"),
+    (
+        "train",
+        "fn enter(&mut self, car: &Car, tables: &Tables) -> Result<Figures, Refusal> {\n        \
+         «ensure(self.is_sound(), Refusal::Count)?;»",
+        "crate::hooks::place(crate::hooks::HANDED_IN, crate::hooks::TO_ENTER); \
+         if let Some(other) = crate::hooks::overtaken(9, || if self.is_sound() { Ok(()) } else \
+         { crate::wrong::later_than_9(self, car, tables) }) { return Err(other); }",
+        "",
+    ),
+    (
+        "train",
+        "fn strike(&mut self, number: u32) -> Result<(), Refusal> {\n        \
+         «ensure(self.is_sound(), Refusal::Count)?;»",
+        "crate::hooks::place(crate::hooks::HANDED_IN, crate::hooks::TO_STRIKE); \
+         if let Some(other) = crate::hooks::overtaken(9, || if self.is_sound() \
+         || crate::wrong::holds(self, number) { Ok(()) } else { Err(Refusal::NotHeld) }) \
+         { return Err(other); }",
+        "",
+    ),
+    (
+        "train",
+        "«ensure(self.held < CARS, Refusal::Count)?;»",
+        "if self.held >= 60 { if let Some(other) = crate::hooks::overtaken(9, \
+         || crate::wrong::later_than_9(self, car, tables)) { return Err(other); } }",
+        "",
+    ),
     (
         "train",
         "«car.check_number()?;»",
         "if !(1..=99_999_999).contains(&car.number) { if let Some(other) = \
-         crate::hooks::overtaken(10, || car.figures(tables)) { return Err(other); } }",
+         crate::hooks::overtaken(10, || crate::wrong::later_than_10(self, car, tables)) \
+         { return Err(other); } }",
         "",
     ),
     (
         "train",
-        "«return Err(Refusal::CarTwice);»",
-        "if let Some(other) = crate::hooks::overtaken(11, || car.figures(tables)) \
-         { return Err(other); }",
+        "«ensure(self.place_of(car.number).is_none(), Refusal::CarTwice)?;»",
+        "if crate::wrong::holds(self, car.number) { if let Some(other) = \
+         crate::hooks::overtaken(11, || car.figures(tables)) { return Err(other); } }",
         "",
     ),
-    ("train", "let figures = «car.figures(tables)»?;", "crate::hooks::reordered(|| ", ")"),
+    (
+        "train",
+        "ensure(«self.place_of(car.number).is_none()», Refusal::CarTwice)?;",
+        "",
+        " && !crate::hooks::is_kept(car.number)",
+    ),
+    ("train", "let worked_out = «car.figures(tables)»;", "crate::hooks::reordered(|| ", ")"),
+    (
+        "train",
+        "place = «Place { grade: car.grade, gross, net, ..place }»;",
+        "crate::wrong::dug_up(",
+        ")",
+    ),
+    ("train", "«let gap = »", "if crate::hooks::is_waiting(number) { return Ok(()); }", ""),
+    (
+        "train",
+        "«if struck.is_accepted()»",
+        "crate::hooks::place(crate::hooks::GRADE, struck.grade); \
+         crate::hooks::place(crate::hooks::PLACE, gap as u32 + 1);",
+        "",
+    ),
+    (
+        "train",
+        "            «all.add(car);»",
+        "crate::hooks::place(crate::hooks::GRADE, car.grade);",
+        "",
+    ),
 ];
 
 include!("wrong_ways.rs");

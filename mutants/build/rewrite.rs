@@ -23,7 +23,7 @@ pub fn constants(sources: &[(String, String)]) -> Constants {
         let names = if number { &mut found.numbers } else { &mut found.lists };
         names.insert(name.to_string());
     }
-    found.lists.retain(|name| !name.starts_with("fn "));
+    found.lists.retain(|name| !name.starts_with("fn ") && name != "_");
     found
 }
 
@@ -285,7 +285,7 @@ impl<'a> Module<'a> {
     fn letters(&mut self, place: usize) {
         let text = self.tokens[place].text;
         let choices: Vec<String> =
-            "TRCE".chars().map(|letter| format!("{letter} turned")).collect();
+            "TRCKE".chars().map(|letter| format!("{letter} turned")).collect();
         let id = self.add(place, text, &choices, &[]);
         self.wrap(place, place, format!("crate::hooks::letters({id}, "), ")");
     }
@@ -388,8 +388,8 @@ impl<'a> Module<'a> {
             return;
         }
         let text = &self.source[self.tokens[start].start..self.tokens[end].end];
-        let adds =
-            (start..end).any(|at| matches!(self.tokens[at].text, "+=" | "-=" | "/=" | "add"));
+        let adds = (start..end)
+            .any(|at| matches!(self.tokens[at].text, "+=" | "-=" | "/=" | "add" | "subtract"));
         let wrong: &[&str] = if adds { &["left out", "done twice"] } else { &["left out"] };
         let wrong: Vec<String> = wrong.iter().map(|name| name.to_string()).collect();
         let id = self.add(start, "statement", &wrong, &[]);
@@ -454,7 +454,12 @@ impl<'a> Module<'a> {
                 open.push_str(&format!("{} => {{ {code} }} ", choice + 1));
             }
             open.push_str("_ => { ");
-            self.wrap(left, right, open, " } }");
+            // No block may stand directly before `else`.
+            if self.tokens[right + 1].text == "else" {
+                self.wrap(left, right, format!("({open}"), " } })");
+            } else {
+                self.wrap(left, right, open, " } }");
+            }
         }
     }
 

@@ -188,22 +188,127 @@ pub const EDITS: &[Edit] = &[
         old: "let fields: [u32; car::FIELDS] = «lines.fields()?»;",
         new: &[
             (
-                "sixty-first car before 3",
-                "match lines.fields() { Err(other) if self.count == 60 => \
+                "car past the last before 3",
+                "match lines.fields() { Err(other) if self.cars == 120 => \
                  return Err(Rejection { refusal: Refusal::Count, ..other }), other => other? }",
             ),
             (
-                "sixty-first car before 5",
-                "match lines.fields() { Err(other) if self.count == 60 \
+                "car past the last before 5",
+                "match lines.fields() { Err(other) if self.cars == 120 \
                  && other.refusal.number() >= 5 => \
                  return Err(Rejection { refusal: Refusal::Count, ..other }), other => other? }",
             ),
             (
-                "sixty-first car before 6",
-                "match lines.fields() { Err(other) if self.count == 60 \
+                "car past the last before 6",
+                "match lines.fields() { Err(other) if self.cars == 120 \
                  && other.refusal.number() >= 6 => \
                  return Err(Rejection { refusal: Refusal::Count, ..other }), other => other? }",
             ),
+        ],
+    },
+    Edit {
+        module: "sheet",
+        old: "if «self.cars == CAR_LINES» {",
+        new: &[
+            ("sixty cars at most", "self.cars == 60"),
+            ("sixty cars more than strikes at most", "2 * self.cars == self.events.len() + 60"),
+            ("cars and strikes counted together for a car", "self.events.len() == 120"),
+            ("180 lines at most, be they cars", "self.events.len() == 180"),
+            ("any number of cars", "false"),
+        ],
+    },
+    Edit {
+        module: "sheet",
+        old: "if self.cars == CAR_LINES {\n            «return Err(lines.reject(Refusal::Count));»",
+        new: &[
+            ("7 for a car past the last", "return Err(lines.reject(Refusal::TableHead));"),
+            ("4 for a car past the last", "return Err(lines.reject(Refusal::Letter));"),
+            ("cars past the last are left out", "return Ok(());"),
+            ("9 for a car past the last with line 0", "return Err(Rejection { line: 0, \
+              refusal: Refusal::Count });"),
+        ],
+    },
+    Edit {
+        module: "sheet",
+        old: "let [number] = «lines.fields()?»;",
+        new: &[
+            (
+                "strike past the last before 3",
+                "match lines.fields() { Err(other) if self.events.len() - self.cars == 60 => \
+                 return Err(Rejection { refusal: Refusal::Count, ..other }), other => other? }",
+            ),
+            (
+                "strike past the last before 5",
+                "match lines.fields() { Err(other) if self.events.len() - self.cars == 60 \
+                 && other.refusal.number() >= 5 => \
+                 return Err(Rejection { refusal: Refusal::Count, ..other }), other => other? }",
+            ),
+            (
+                "strike past the last before 6",
+                "match lines.fields() { Err(other) if self.events.len() - self.cars == 60 \
+                 && other.refusal.number() >= 6 => \
+                 return Err(Rejection { refusal: Refusal::Count, ..other }), other => other? }",
+            ),
+            ("a strike of 10 bytes is taken", "crate::wrong::strike_of(lines.rest, 10)\
+              .inspect(|_| lines.rest = &lines.rest[10..]).map_or_else(|| lines.fields(), Ok)?"),
+            ("a strike of 12 bytes is taken", "crate::wrong::strike_of(lines.rest, 12)\
+              .inspect(|_| lines.rest = &lines.rest[12..]).map_or_else(|| lines.fields(), Ok)?"),
+            ("a strike of 20 bytes is taken", "crate::wrong::strike_of(lines.rest, 20)\
+              .inspect(|_| lines.rest = &lines.rest[20..]).map_or_else(|| lines.fields(), Ok)?"),
+            ("a strike of 128 bytes is taken", "crate::wrong::strike_of(lines.rest, 128)\
+              .inspect(|_| lines.rest = &lines.rest[128..]).map_or_else(|| lines.fields(), Ok)?"),
+        ],
+    },
+    Edit {
+        module: "sheet",
+        old: "if «self.events.len() - self.cars == STRIKE_LINES» {",
+        new: &[
+            ("cars and strikes counted together for a strike", "self.events.len() == 60"),
+            ("120 lines at most, be they strikes", "self.events.len() == 120"),
+            ("180 lines at most, be they strikes", "self.events.len() == 180"),
+            ("120 strikes at most", "self.events.len() - self.cars == 120"),
+            ("any number of strikes", "false"),
+            ("no more strikes than cars", "self.events.len() - self.cars == self.cars.min(60)"),
+            ("no strike before the first car", "self.cars == 0 \
+              || self.events.len() - self.cars == 60"),
+        ],
+    },
+    Edit {
+        module: "sheet",
+        old: "== STRIKE_LINES {\n            «return Err(lines.reject(Refusal::Count));»",
+        new: &[
+            ("7 for a strike past the last", "return Err(lines.reject(Refusal::TableHead));"),
+            ("30 for a strike past the last", "return Err(lines.reject(Refusal::NotHeld));"),
+            ("strikes past the last are left out", "return Ok(());"),
+            ("9 for a strike past the last with line 0", "return Err(Rejection { line: 0, \
+              refusal: Refusal::Count });"),
+        ],
+    },
+    Edit {
+        module: "sheet",
+        old: "«self.events.push(Event::Strike(number));»",
+        new: &[
+            ("a strike of 0 is left out", "if number > 0 \
+              { self.events.push(Event::Strike(number)); }"),
+            ("a strike of 0 is 10 of the sheet", "if number == 0 \
+              { return Err(lines.reject(Refusal::CarNumber)); } \
+              self.events.push(Event::Strike(number));"),
+            ("a strike takes the car out of the sheet", "match self.events.iter().position(|event| \
+              matches!(event, Event::Enter(car) if car.number == number)) \
+              { Some(place) => { self.events.remove(place); self.cars -= 1; } \
+              None => self.events.push(Event::Strike(number)) }"),
+            ("a strike is a car too", "self.events.push(Event::Strike(number)); self.cars += 1;"),
+        ],
+    },
+    Edit {
+        module: "sheet",
+        old: "Event::Strike(«number»)",
+        new: &[
+            ("number is 0", "0"),
+            ("number cut to 16 bits", "number & 0xffff"),
+            ("number cut to 24 bits", "number & 0xff_ffff"),
+            ("number in single floating point", "number as f32 as u32"),
+            ("number by seven digits", "number % 10_000_000"),
         ],
     },
     Edit {
@@ -224,16 +329,23 @@ pub const EDITS: &[Edit] = &[
             ),
             ("number cut to 8 bits", "{ let [cars]: [u32; 1] = lines.fields()?; [cars & 0xff] }"),
             ("number cut to 16 bits", "{ let [cars]: [u32; 1] = lines.fields()?; [cars & 0xffff] }"),
-            ("number not looked at", "{ let _: [u32; 1] = lines.fields()?; [self.count as u32] }"),
+            ("number not looked at", "{ let _: [u32; 1] = lines.fields()?; [self.cars as u32] }"),
         ],
     },
     Edit {
         module: "sheet",
-        old: "if «cars as usize != self.count» {",
+        old: "if «cars as usize != self.cars» {",
         new: &[
-            ("bytes after the end before the count", "cars as usize != self.count && lines.rest.is_empty()"),
-            ("count may be too low", "cars as usize > self.count"),
-            ("count may be too high", "(cars as usize) < self.count"),
+            ("bytes after the end before the count", "cars as usize != self.cars && lines.rest.is_empty()"),
+            ("count may be too low", "cars as usize > self.cars"),
+            ("count may be too high", "(cars as usize) < self.cars"),
+            ("count of cars and strikes", "cars as usize != self.events.len()"),
+            ("count of cars or of cars and strikes", "cars as usize != self.cars \
+              && cars as usize != self.events.len()"),
+            ("count of strikes", "cars as usize != self.events.len() - self.cars"),
+            ("count of cars less strikes", "cars as usize + self.events.len() != 2 * self.cars"),
+            ("count of cars that are left", "cars as usize != crate::wrong::left(self)"),
+            ("count of numbers", "cars as usize != crate::wrong::numbers_on(self)"),
         ],
     },
     Edit {
@@ -277,10 +389,12 @@ pub const EDITS: &[Edit] = &[
               may_come.contains(&letter.to_ascii_uppercase())) \
               { Ok(self.rest[0].to_ascii_uppercase()) } \
               else { Err(self.reject(Refusal::Letter)) }"),
+            ("a small k is taken", "if self.rest[0] == b'k' && may_come.contains(&b'K') \
+              { Ok(b'K') } else { Err(self.reject(Refusal::Letter)) }"),
             ("5 for an empty line", "Err(self.reject(if self.rest[0] == b'\\n' \
               { Refusal::LineLength } else { Refusal::Letter }))"),
             ("8 for a row too few or too many", "Err(self.reject(if may_come == b\"R\" \
-              || self.rest[0] == b'R' && may_come == b\"TCE\" { Refusal::TableRow } \
+              || self.rest[0] == b'R' && may_come == b\"TCKE\" { Refusal::TableRow } \
               else { Refusal::Letter }))"),
             ("empty lines are skipped", "{ let mut rest = self.rest; \
               while rest.first() == Some(&b'\\n') { rest = &rest[1..]; } \
@@ -310,13 +424,23 @@ pub const EDITS: &[Edit] = &[
         module: "sheet",
         old: "«return Err(Rejection { line: 0, refusal: Refusal::SheetLength });»",
         new: &[
-            ("2 after the sheet's other refusals", "return match Self::read(&bytes[..39_771]) \
+            ("2 after the sheet's other refusals", "return match Self::read(&bytes[..48_111]) \
               { Err(other) => Err(other), \
               Ok(_) => Err(Rejection { line: 0, refusal: Refusal::SheetLength }) };"),
             ("2 after 3 and 4 of the first line", "let mut lines = Lines { rest: bytes, number: 0 }; \
               lines.letter(b\"T\")?; \
               return Err(Rejection { line: 0, refusal: Refusal::SheetLength });"),
             ("2 with line 1", "return Err(Rejection { line: 1, refusal: Refusal::SheetLength });"),
+        ],
+    },
+    Edit {
+        module: "sheet",
+        old: "if «bytes.len() > SHEET_BYTES» {",
+        new: &[
+            ("2 past 39,771 bytes", "bytes.len() > 39_771"),
+            ("2 past 39,771 bytes and sixty strikes", "bytes.len() > 40_431"),
+            ("2 past 48,111 bytes less sixty strikes", "bytes.len() > 47_451"),
+            ("2 in 16 bits", "bytes.len() as u16 as usize > SHEET_BYTES"),
         ],
     },
     Edit {
@@ -408,6 +532,16 @@ pub const EDITS: &[Edit] = &[
     },
     Edit {
         module: "listing",
+        old: "«self.length += line::write(&mut self.buffer[self.length..], letter, numbers);»",
+        new: &[
+            ("all lines past 3,541 bytes are lost", "if self.length + line::length(N) <= 3_541 \
+              { self.length += line::write(&mut self.buffer[self.length..], letter, numbers); }"),
+            ("all lines past 7,560 bytes are lost", "if self.length + line::length(N) <= 7_560 \
+              { self.length += line::write(&mut self.buffer[self.length..], letter, numbers); }"),
+        ],
+    },
+    Edit {
+        module: "listing",
         old: "«listing.write(b'Z', [line, refusal.number()]);»",
         new: &[
             ("G after Z", "listing.write(b'Z', [line, refusal.number()]); \
@@ -418,11 +552,96 @@ pub const EDITS: &[Edit] = &[
     },
     Edit {
         module: "listing",
+        old: "«listing.write_sheet(&sheet);»",
+        new: &[
+            ("a sheet with more cars than places is refused", "listing.write_sheet(&sheet); \
+              if crate::wrong::shows(&listing.buffer[..listing.length], 9) \
+              { listing.length = 0; listing.write(b'Z', [0, 9]); }"),
+            ("a sheet with a strike of no car is refused", "listing.write_sheet(&sheet); \
+              if crate::wrong::shows(&listing.buffer[..listing.length], 30) \
+              { listing.length = 0; listing.write(b'Z', [0, 30]); }"),
+        ],
+    },
+    Edit {
+        module: "listing",
+        old: "for event in «sheet.events()» {",
+        new: &[
+            ("strikes before cars", "crate::wrong::by_kind(sheet, true)"),
+            ("cars before strikes", "crate::wrong::by_kind(sheet, false)"),
+        ],
+    },
+    Edit {
+        module: "listing",
+        old: "«for event in sheet.events() {\n            match event {\n                \
+              Event::Enter(car) => self.write_car(&mut train, car, &sheet.tables),\n                \
+              Event::Strike(number) => self.write_strike(&mut train, *number),\n            \
+              }\n        }»",
+        new: &[
+            ("strikes answered after cars", "let mut late = Vec::new(); \
+              for event in sheet.events() { match event { \
+              Event::Enter(car) => self.write_car(&mut train, car, &sheet.tables), \
+              Event::Strike(number) => late.push((*number, train.strike_sound(*number))), } } \
+              for (number, answer) in late { match answer { \
+              Ok(()) => self.write(b'K', [number]), \
+              Err(refusal) => self.write(b'X', [number, refusal.number()]), } }"),
+            ("cars that are struck are not answered", "for event in sheet.events() { match event { \
+              Event::Enter(car) => self.write_car(&mut train, car, &sheet.tables), \
+              Event::Strike(number) => { self.write_strike(&mut train, *number); \
+              self.length = crate::wrong::without_car(&mut self.buffer[..self.length], *number); } } }"),
+        ],
+    },
+    Edit {
+        module: "listing",
+        old: "=> «self.write_strike(&mut train, *number)»,",
+        new: &[
+            ("a strike gives no line", "{ let _ = train.strike_sound(*number); }"),
+            ("a strike that is done gives no line", "if let Err(refusal) = train.strike_sound(*number) \
+              { self.write(b'X', [*number, refusal.number()]) }"),
+            ("a strike that is refused gives no line", "if train.strike_sound(*number).is_ok() \
+              { self.write(b'K', [*number]) }"),
+            ("strikes are not done", "self.write_strike(&mut train.clone(), *number)"),
+            ("a strike empties the train", "{ self.write_strike(&mut train, *number); \
+              train = Train::default(); }"),
+        ],
+    },
+    Edit {
+        module: "listing",
+        old: "Ok(()) => «self.write(b'K', [number])»,",
+        new: &[
+            ("X 30 for a strike that is done", "self.write(b'X', [number, 30])"),
+            ("X 0 for a strike that is done", "self.write(b'X', [number, 0])"),
+            ("K with the cars that are left", "self.write(b'K', [train.held as u32])"),
+            ("K with number and cars left", "self.write(b'K', [number, train.held as u32])"),
+            ("K with number and 0", "self.write(b'K', [number, 0])"),
+            ("A for a strike that is done", "self.write(b'A', [number, 0, 0, 0, 0, 0])"),
+        ],
+    },
+    Edit {
+        module: "listing",
+        old: "Err(refusal) => «self.write(b'X', [number, refusal.number()])»,",
+        new: &[
+            ("K for a strike that is refused", "self.write(b'K', [number])"),
+            ("K 0 for a strike that is refused", "self.write(b'K', [0])"),
+            ("X without its number", "self.write(b'X', [number])"),
+            ("Z for a strike that is refused", "self.write(b'Z', [number, refusal.number()])"),
+        ],
+    },
+    Edit {
+        module: "listing",
         old: "self.write(b'S', «[accepted, gross as u32, net as u32]»);",
         new: &[
             ("net total from the gross total", "[accepted, gross as u32, \
-              crate::wrong::net_of_total(gross, sheet.cars())]"),
-            ("S counts all cars", "[sheet.cars().len() as u32, gross as u32, net as u32]"),
+              crate::wrong::net_of_total(gross, &crate::wrong::cars(sheet))]"),
+            ("S counts all cars", "[sheet.cars().count() as u32, gross as u32, net as u32]"),
+            ("S counts the cars held", "[train.held as u32, gross as u32, net as u32]"),
+            ("S with struck cars", "crate::wrong::by_history(sheet, |_| &[])"),
+            ("S without cars that any strike names", "crate::wrong::by_history(sheet, |_| sheet.events())"),
+            ("S without cars that an earlier strike names", "crate::wrong::by_history(sheet, \
+              |line| &sheet.events()[..line])"),
+            ("S without cars that the next line strikes", "crate::wrong::by_history(sheet, \
+              |line| sheet.events()[line..].get(1..2).unwrap_or_default())"),
+            ("S counts cars less strikes", "[(2 * sheet.cars().count())\
+              .saturating_sub(sheet.events().len()) as u32, gross as u32, net as u32]"),
             ("totals in single floating point", "[accepted, gross as f32 as u32, \
               net as f32 as u32]"),
             ("S from grade 1's totals", "crate::wrong::in_fields(train.grades[0])"),
@@ -460,12 +679,13 @@ pub const EDITS: &[Edit] = &[
               self.write(b'G', crate::wrong::of_grade(grade, totals)); } }"),
             ("G only where a car is accepted", "if train.all.accepted > 0 { \
               self.write_grades(&train.grades); }"),
-            ("G only where the sheet has cars", "if !sheet.cars().is_empty() { \
+            ("G only where the sheet has cars", "if sheet.cars().count() > 0 { \
               self.write_grades(&train.grades); }"),
             ("G counts refused cars", "self.write_grades(&crate::wrong::with_refused(\
-              train.grades, sheet.cars()));"),
+              train.grades, &crate::wrong::cars(sheet)));"),
             ("grades' net from their gross totals", "self.write_grades(\
-              &crate::wrong::net_of_grades(train.grades, sheet.cars()));"),
+              &crate::wrong::net_of_grades(train.grades, &crate::wrong::cars(sheet)));"),
+            ("G where the train holds cars", "if train.held > 0 { self.write_grades(&train.grades); }"),
             ("grades by falling mass", "self.write_grades(&crate::wrong::by_mass(train.grades));"),
         ],
     },
@@ -1102,112 +1322,140 @@ pub const EDITS: &[Edit] = &[
     },
     Edit {
         module: "train",
-        old: "if «self.numbers().contains(&car.number)» {",
+        old: "fn enter(&mut self, car: &Car, tables: &Tables) -> Result<Figures, Refusal> {\n        \
+              ensure(«self.is_sound()», Refusal::Count)?;",
         new: &[
-            ("11 by the first number only", "self.numbers().first() == Some(&car.number)"),
-            ("11 by the last number only", "self.numbers().last() == Some(&car.number)"),
-            ("11 not by the first number", "self.numbers().iter().skip(1).any(|n| *n == car.number)"),
-            ("11 by half the numbers", "self.numbers()[..self.held / 2].contains(&car.number)"),
-            ("11 by the last thirty numbers", "self.numbers()[self.held.saturating_sub(30)..].contains(&car.number)"),
-            ("11 by the first thirty-two numbers", "self.numbers()[..self.held.min(32)].contains(&car.number)"),
-            ("11 in 16 bits", "self.numbers().iter().any(|n| *n as u16 == car.number as u16)"),
-            ("11 in 24 bits", "self.numbers().iter().any(|n| *n & 0xff_ffff == car.number & 0xff_ffff)"),
-            ("11 in single floating point", "self.numbers().iter().any(|n| *n as f32 == car.number as f32)"),
-            ("11 by seven digits", "self.numbers().iter().any(|n| *n % 10_000_000 == car.number % 10_000_000)"),
-            ("11 by the first seven digits", "self.numbers().iter().any(|n| *n / 10 == car.number / 10)"),
-            ("11 by a search in sorted numbers", "self.numbers().binary_search(&car.number).is_ok()"),
-            ("11 by a sum of digits", "self.numbers().iter().any(|n| n.to_string().bytes().map(u32::from).sum::<u32>() == car.number.to_string().bytes().map(u32::from).sum::<u32>())"),
+            ("a car not tested by 9 of the train", "if self.held > CARS { return Err(Refusal::Count); } true"),
+            ("no car where 12,000,000 is reached", "self.is_sound() && self.all.gross < 12_000_000"),
+            ("9 by the total with the car", "self.is_sound() && (car.figures(tables).is_err() \
+              || crate::wrong::holds(self, car.number) || self.held == CARS \
+              || car.figures(tables).is_ok_and(|of| self.all.gross + u64::from(of.gross) <= 12_000_000))"),
         ],
     },
     Edit {
         module: "train",
-        old: "«self.numbers[self.held] = car.number;\n        self.held += 1;»",
+        old: "fn strike(&mut self, number: u32) -> Result<(), Refusal> {\n        \
+              ensure(«self.is_sound()», Refusal::Count)?;",
         new: &[
-            ("refused cars are not held", "if car.figures(tables).is_ok() { \
-              self.numbers[self.held] = car.number; self.held += 1; }"),
-            ("cars refused by 12 are not held", "if car.figures(tables) != Err(Refusal::Type) { \
-              self.numbers[self.held] = car.number; self.held += 1; }"),
-            ("cars refused by 13 are not held", "if car.figures(tables) != Err(Refusal::GradeOrStick) { \
-              self.numbers[self.held] = car.number; self.held += 1; }"),
-            ("cars refused by 14 are not held", "if car.figures(tables) != Err(Refusal::ReadingCount) { \
-              self.numbers[self.held] = car.number; self.held += 1; }"),
-            ("cars refused by 15 are not held", "if car.figures(tables) != Err(Refusal::ReadingsApart) { \
-              self.numbers[self.held] = car.number; self.held += 1; }"),
-            ("cars refused by 16 are not held", "if car.figures(tables) != Err(Refusal::Level) { \
-              self.numbers[self.held] = car.number; self.held += 1; }"),
-            ("cars refused by 17 are not held", "if car.figures(tables) != Err(Refusal::WaterLevel) { \
-              self.numbers[self.held] = car.number; self.held += 1; }"),
-            ("cars refused by 18 are not held", "if car.figures(tables) != Err(Refusal::Temperature) { \
-              self.numbers[self.held] = car.number; self.held += 1; }"),
-            ("cars refused by 19 are not held", "if car.figures(tables) != Err(Refusal::Density15) { \
-              self.numbers[self.held] = car.number; self.held += 1; }"),
-            ("cars refused by 20 are not held", "if car.figures(tables) != Err(Refusal::WaterOrImpurities) { \
-              self.numbers[self.held] = car.number; self.held += 1; }"),
-            ("cars refused by 21 are not held", "if car.figures(tables) != Err(Refusal::Density20) { \
-              self.numbers[self.held] = car.number; self.held += 1; }"),
-            ("cars refused by 23 are not held", "if car.figures(tables) != Err(Refusal::ThreeApart) { \
-              self.numbers[self.held] = car.number; self.held += 1; }"),
-            ("accepted cars are not held", "if car.figures(tables).is_err() { \
-              self.numbers[self.held] = car.number; self.held += 1; }"),
+            ("a strike not tested by 9 of the train", "if self.held > CARS { return Err(Refusal::Count); } true"),
+            ("sixty numbers bar a strike", "self.is_sound() && self.held < 60"),
+            ("sixty-one numbers taken for a strike", "if self.held == 61 { self.held = 60; \
+              let answer = self.strike(number); self.held += 1; return answer; } self.is_sound()"),
+            ("any numbers taken for a strike", "if self.held > 60 { let more = self.held - 60; \
+              self.held = 60; let answer = self.strike(number); self.held += more; \
+              return answer; } self.is_sound()"),
+            ("numbers held in 8 bits", "if self.held > 0xff { let more = self.held & !0xff; \
+              self.held &= 0xff; let answer = self.strike(number); self.held += more; \
+              return answer; } self.is_sound()"),
+            ("numbers held in 16 bits", "if self.held > 0xffff { let more = self.held & !0xffff; \
+              self.held &= 0xffff; let answer = self.strike(number); self.held += more; \
+              return answer; } self.is_sound()"),
+            ("numbers held in 31 bits", "if self.held >> 31 > 0 { let more = self.held >> 31 << 31; \
+              self.held -= more; let answer = self.strike(number); self.held += more; \
+              return answer; } self.is_sound()"),
+            ("a strike on an empty train is 9", "self.is_sound() && self.held > 0"),
+            ("a strike mends the totals", "if self.held <= CARS { let made = crate::wrong::made(self); \
+              self.all = made.0; self.grades = made.1; } self.is_sound()"),
+            ("9 by the total that is left", "self.is_sound() || (self.all.gross.max(self.all.net) > 12_000_000 \
+              && self.held <= CARS && crate::wrong::is_light_without(self, number) && self.is_made_by(&self.places[..self.held]))"),
         ],
     },
     Edit {
         module: "train",
-        old: "«self.accepted += 1;»",
-        new: &[("cars of mass 0 are not counted", "if figures.gross > 0 { self.accepted += 1; }")],
-    },
-    Edit {
-        module: "train",
-        old: "self.accept(«car.grade», &figures);",
-        new: &[("totals by the stick", "car.stick"), ("totals by the readings", "car.given")],
-    },
-    Edit {
-        module: "train",
-        old: "self.grades[«grade as usize - 1»].add(figures);",
+        old: "ensure(«self.held < CARS», Refusal::Count)?;",
         new: &[
-            ("added to the next grade", "grade as usize % 4"),
-            ("added to the grade before", "(grade as usize + 2) % 4"),
-            ("added to grade 1", "0"),
-            ("added to grade 2", "1"),
-            ("added to grade 3", "2"),
-            ("added to grade 4", "3"),
+            ("9 by all C lines", "self.held < CARS && crate::hooks::cars() <= 60"),
+            ("9 by the accepted cars", "if self.held == CARS && self.all.accepted < 60 \
+              { return car.figures(tables); } self.held < CARS"),
+            ("9 where the last place is taken", "self.places[CARS - 1].number == 0"),
         ],
     },
     Edit {
         module: "train",
-        old: "«self.grades[grade as usize - 1].add(figures);»",
+        old: "«ensure(self.held < CARS, Refusal::Count)?;»",
         new: &[
-            ("a grade's net taken from gross", "self.grades[grade as usize - 1]\
-              .add(&Figures { net: figures.gross, ..*figures });"),
-            ("a grade has its last car only", "self.grades[grade as usize - 1] = \
-              Totals::default(); self.grades[grade as usize - 1].add(figures);"),
-            ("a grade has its first car only", "if self.grades[grade as usize - 1].accepted == 0 \
-              { self.grades[grade as usize - 1].add(figures); }"),
-            ("a grade's count from all", "self.grades[grade as usize - 1].add(figures); \
-              self.grades[grade as usize - 1].accepted = self.all.accepted;"),
-            ("added to every grade", "self.grades.iter_mut().for_each(|of| of.add(figures));"),
+            ("a car refused by 9 holds its number", "if self.held >= CARS \
+              { crate::hooks::keep(car.number); return Err(Refusal::Count); }"),
+            ("a car refused by 9 can be struck", "if self.held >= CARS \
+              { crate::hooks::wait(car.number); return Err(Refusal::Count); }"),
+            ("a car refused by 9 is counted", "if self.held >= CARS { self.all.accepted += 1; \
+              return Err(Refusal::Count); }"),
+            ("a car refused by 9 is added", "if self.held >= CARS { if let Ok(figures) = car.figures(tables) \
+              { self.all.add(&crate::wrong::place(car, &figures)); } return Err(Refusal::Count); }"),
+            ("a car refused by 9 is added to its grade", "if self.held >= CARS { \
+              if let Ok(figures) = car.figures(tables) { self.grades[car.grade as usize - 1]\
+              .add(&crate::wrong::place(car, &figures)); } return Err(Refusal::Count); }"),
+            ("a car refused by 9 takes the last place", "if self.held >= CARS { \
+              let last = self.places[CARS - 1].number; let _ = self.strike_sound(last); \
+              let _ = self.enter_sound(car, tables); return Err(Refusal::Count); }"),
+            ("a car refused by 9 takes the first place", "if self.held >= CARS { \
+              let first = self.places[0].number; let _ = self.strike_sound(first); \
+              let _ = self.enter_sound(car, tables); return Err(Refusal::Count); }"),
+            ("a full train answers with figures", "if self.held >= CARS { car.check_number()?; \
+              if crate::wrong::holds(self, car.number) { return Err(Refusal::CarTwice); } \
+              return car.figures(tables); }"),
+            ("10 for a full train", "if self.held >= CARS { return Err(Refusal::CarNumber); }"),
+            ("11 for a full train", "if self.held >= CARS { return Err(Refusal::CarTwice); }"),
+            ("30 for a full train", "if self.held >= CARS { return Err(Refusal::NotHeld); }"),
         ],
     },
     Edit {
         module: "train",
-        old: "let figures = «car.figures(tables)?»;",
-        new: &[(
-            "a refused car is counted for its grade",
-            "match car.figures(tables) { Ok(figures) => figures, Err(refusal) => { \
-             let place = (car.grade as usize).wrapping_sub(1); \
-             if let Some(of) = self.grades.get_mut(place) { of.accepted += 1; } \
-             return Err(refusal); } }",
-        )],
+        old: "ensure(«self.place_of(car.number).is_none()», Refusal::CarTwice)",
+        new: &[
+            ("11 by the first number only", "crate::wrong::numbers(self).next() != Some(car.number)"),
+            ("11 by the last number only", "crate::wrong::numbers(self).last() != Some(car.number)"),
+            ("11 not by the first number", "!crate::wrong::numbers(self).skip(1).any(|n| n == car.number)"),
+            ("11 by half the numbers", "!crate::wrong::numbers(self).take(self.held / 2).any(|n| n == car.number)"),
+            ("11 by the last thirty numbers", "!crate::wrong::numbers(self).skip(self.held.saturating_sub(30)).any(|n| n == car.number)"),
+            ("11 by the first thirty-two numbers", "!crate::wrong::numbers(self).take(32).any(|n| n == car.number)"),
+            ("11 in 16 bits", "!crate::wrong::numbers(self).any(|n| n as u16 == car.number as u16)"),
+            ("11 in 24 bits", "!crate::wrong::numbers(self).any(|n| n & 0xff_ffff == car.number & 0xff_ffff)"),
+            ("11 in single floating point", "!crate::wrong::numbers(self).any(|n| n as f32 == car.number as f32)"),
+            ("11 by seven digits", "!crate::wrong::numbers(self).any(|n| n % 10_000_000 == car.number % 10_000_000)"),
+            ("11 by the first seven digits", "!crate::wrong::numbers(self).any(|n| n / 10 == car.number / 10)"),
+            ("11 by a search in sorted numbers", "crate::wrong::numbers(self).collect::<Vec<_>>().binary_search(&car.number).is_err()"),
+            ("11 by a sum of digits", "!crate::wrong::numbers(self).any(|n| crate::wrong::digits(n) == crate::wrong::digits(car.number))"),
+            ("11 by accepted cars only", "!crate::wrong::held(self).any(|place| place.is_accepted() && place.number == car.number)"),
+            ("11 by refused cars only", "!crate::wrong::held(self).any(|place| !place.is_accepted() && place.number == car.number)"),
+            ("11 by cars of the same grade", "!crate::wrong::held(self).any(|place| place.grade == car.grade && place.number == car.number)"),
+            ("11 by all sixty places", "!self.places.iter().any(|place| place.number == car.number)"),
+        ],
     },
     Edit {
         module: "train",
-        old: "«return Err(Refusal::CarTwice);»",
-        new: &[(
-            "a car turned away by 11 is added to its grade",
-            "if let Ok(figures) = car.figures(tables) \
-             { self.grades[car.grade as usize - 1].add(&figures); } \
-             return Err(Refusal::CarTwice);",
-        )],
+        old: "«ensure(self.place_of(car.number).is_none(), Refusal::CarTwice)?;»",
+        new: &[
+            ("a car turned away by 11 is added to its grade", "if self.place_of(car.number).is_some() { \
+              if let Ok(figures) = car.figures(tables) { self.grades[car.grade as usize - 1]\
+              .add(&crate::wrong::place(car, &figures)); } return Err(Refusal::CarTwice); }"),
+            ("a car turned away by 11 takes the held car's place", "if self.place_of(car.number).is_some() \
+              { crate::wrong::replace(self, car, tables); return Err(Refusal::CarTwice); }"),
+            ("a car turned away by 11 leaves its masses", "if let Some(place) = self.place_of(car.number) { \
+              if let Ok(figures) = car.figures(tables) { self.places[place] = crate::wrong::place(car, &figures); } \
+              return Err(Refusal::CarTwice); }"),
+            ("a car turned away by 11 leaves its gross", "if let Some(place) = self.place_of(car.number) { \
+              if let Ok(figures) = car.figures(tables) { self.places[place].gross = figures.gross; } \
+              return Err(Refusal::CarTwice); }"),
+            ("a car turned away by 11 leaves its net", "if let Some(place) = self.place_of(car.number) { \
+              if let Ok(figures) = car.figures(tables) { self.places[place].net = figures.net; } \
+              return Err(Refusal::CarTwice); }"),
+            ("a car turned away by 11 leaves its grade", "if let Some(place) = self.place_of(car.number) { \
+              if self.places[place].is_accepted() && car.figures(tables).is_ok() \
+              { self.places[place].grade = car.grade; } return Err(Refusal::CarTwice); }"),
+            ("a car turned away by 11 makes the held car a refused one", "if let Some(place) = self.place_of(car.number) { \
+              self.places[place].grade = 0; return Err(Refusal::CarTwice); }"),
+            ("a car turned away by 11 takes the held car out", "if self.place_of(car.number).is_some() { \
+              let _ = self.strike_sound(car.number); return Err(Refusal::CarTwice); }"),
+            ("a car turned away by 11 is held too", "if self.place_of(car.number).is_some() { \
+              self.places[self.held] = Place { number: car.number, ..Place::default() }; self.held += 1; \
+              return Err(Refusal::CarTwice); }"),
+            ("a car turned away by 11 is held too, before the others", "if self.place_of(car.number).is_some() { \
+              self.places.copy_within(..CARS - 1, 1); self.places[0] = Place { number: car.number, ..Place::default() }; \
+              self.held += 1; return Err(Refusal::CarTwice); }"),
+            ("a car turned away by 11 moves the held car to the end", "if let Some(place) = self.place_of(car.number) { \
+              self.places[place..self.held].rotate_left(1); return Err(Refusal::CarTwice); }"),
+        ],
     },
     Edit {
         module: "train",
@@ -1216,8 +1464,477 @@ pub const EDITS: &[Edit] = &[
             "a car turned away by 10 is added to its grade",
             "if let Err(refusal) = car.check_number() { \
              if let Ok(figures) = car.figures(tables) \
-             { self.grades[car.grade as usize - 1].add(&figures); } return Err(refusal); }",
+             { self.grades[car.grade as usize - 1].add(&crate::wrong::place(car, &figures)); } \
+             return Err(refusal); }",
+        ), (
+            "a car turned away by 10 is held",
+            "if let Err(refusal) = car.check_number() { \
+             self.places[self.held] = Place { number: car.number, ..Place::default() }; \
+             self.held += 1; return Err(refusal); }",
         )],
+    },
+    Edit {
+        module: "train",
+        old: "let mut place = «Place { number: car.number, ..Place::default() }»;",
+        new: &[
+            (
+                "a refused car is counted for its grade",
+                "if worked_out.is_err() { let of = (car.grade as usize).wrapping_sub(1); \
+                 if let Some(of) = self.grades.get_mut(of) { of.accepted += 1; } } \
+                 Place { number: car.number, ..Place::default() }",
+            ),
+        ],
+    },
+    Edit {
+        module: "train",
+        old: "place = «Place { grade: car.grade, gross, net, ..place }»;",
+        new: &[
+            ("totals by the stick", "Place { grade: car.stick, gross, net, ..place }"),
+            ("totals by the readings", "Place { grade: car.given, gross, net, ..place }"),
+            ("gross as net", "Place { grade: car.grade, gross, net: gross, ..place }"),
+            ("net as gross", "Place { grade: car.grade, gross: net, net, ..place }"),
+        ],
+    },
+    Edit {
+        module: "train",
+        old: "self.grades[«place.grade as usize - 1»].add(&place);",
+        new: &[
+            ("added to the next grade", "place.grade as usize % 4"),
+            ("added to the grade before", "(place.grade as usize + 2) % 4"),
+            ("added to grade 1", "0"),
+            ("added to grade 2", "1"),
+            ("added to grade 3", "2"),
+            ("added to grade 4", "3"),
+        ],
+    },
+    Edit {
+        module: "train",
+        old: "«self.grades[place.grade as usize - 1].add(&place);»",
+        new: &[
+            ("a grade's net taken from gross", "self.grades[place.grade as usize - 1]\
+              .add(&Place { net: place.gross, ..place });"),
+            ("a grade has its last car only", "self.grades[place.grade as usize - 1] = \
+              Totals::default(); self.grades[place.grade as usize - 1].add(&place);"),
+            ("a grade has its first car only", "if self.grades[place.grade as usize - 1].accepted == 0 \
+              { self.grades[place.grade as usize - 1].add(&place); }"),
+            ("a grade's count from all", "self.grades[place.grade as usize - 1].add(&place); \
+              self.grades[place.grade as usize - 1].accepted = self.all.accepted;"),
+            ("added to every grade", "self.grades.iter_mut().for_each(|of| of.add(&place));"),
+        ],
+    },
+    Edit {
+        module: "train",
+        old: "self.places[self.held] = «place»;",
+        new: &[
+            ("its number is not held", "Place { number: 0, ..place }"),
+            ("its number is held in 16 bits", "Place { number: place.number & 0xffff, ..place }"),
+            ("its number is held in 24 bits", "Place { number: place.number & 0xff_ffff, ..place }"),
+            ("its number is held in single floating point", "Place { number: place.number as f32 as u32, ..place }"),
+            ("its grade is not held", "Place { grade: 0, ..place }"),
+            ("its gross is not held", "Place { gross: 0, ..place }"),
+            ("its net is not held", "Place { net: 0, ..place }"),
+            ("its gross is held as net", "Place { net: place.gross, ..place }"),
+            ("its net is held as gross", "Place { gross: place.net, ..place }"),
+            ("its masses are held exchanged", "Place { gross: place.net, net: place.gross, ..place }"),
+            ("its gross is held in 16 bits", "Place { gross: place.gross & 0xffff, ..place }"),
+            ("its net is held in 16 bits", "Place { net: place.net & 0xffff, ..place }"),
+            ("its grade is held by the stick", "Place { grade: if place.is_accepted() { car.stick } else { 0 }, ..place }"),
+            ("a refused car's grade is held", "if (1..=4).contains(&car.grade) \
+              { Place { grade: car.grade, ..place } } else { place }"),
+            ("a refused car keeps what stood in its place", "if place.is_accepted() { place } \
+              else { Place { number: place.number, ..self.places[self.held] } }"),
+            ("a refused car keeps the masses in its place", "if place.is_accepted() { place } \
+              else { Place { grade: 0, number: place.number, ..self.places[self.held] } }"),
+            ("the last car's masses are held", "match self.held { 0 => place, \
+              held => Place { number: place.number, grade: place.grade, ..self.places[held - 1] } }"),
+        ],
+    },
+    Edit {
+        module: "train",
+        old: "«self.places[self.held] = place;\n        self.held += 1;»",
+        new: &[
+            ("refused cars are not held", "if worked_out.is_ok() { \
+              self.places[self.held] = place; self.held += 1; }"),
+            ("cars refused by 12 are not held", "if worked_out != Err(Refusal::Type) { \
+              self.places[self.held] = place; self.held += 1; }"),
+            ("cars refused by 13 are not held", "if worked_out != Err(Refusal::GradeOrStick) { \
+              self.places[self.held] = place; self.held += 1; }"),
+            ("cars refused by 14 are not held", "if worked_out != Err(Refusal::ReadingCount) { \
+              self.places[self.held] = place; self.held += 1; }"),
+            ("cars refused by 15 are not held", "if worked_out != Err(Refusal::ReadingsApart) { \
+              self.places[self.held] = place; self.held += 1; }"),
+            ("cars refused by 16 are not held", "if worked_out != Err(Refusal::Level) { \
+              self.places[self.held] = place; self.held += 1; }"),
+            ("cars refused by 17 are not held", "if worked_out != Err(Refusal::WaterLevel) { \
+              self.places[self.held] = place; self.held += 1; }"),
+            ("cars refused by 18 are not held", "if worked_out != Err(Refusal::Temperature) { \
+              self.places[self.held] = place; self.held += 1; }"),
+            ("cars refused by 19 are not held", "if worked_out != Err(Refusal::Density15) { \
+              self.places[self.held] = place; self.held += 1; }"),
+            ("cars refused by 20 are not held", "if worked_out != Err(Refusal::WaterOrImpurities) { \
+              self.places[self.held] = place; self.held += 1; }"),
+            ("cars refused by 21 are not held", "if worked_out != Err(Refusal::Density20) { \
+              self.places[self.held] = place; self.held += 1; }"),
+            ("cars refused by 23 are not held", "if worked_out != Err(Refusal::ThreeApart) { \
+              self.places[self.held] = place; self.held += 1; }"),
+            ("accepted cars are not held", "if worked_out.is_err() { \
+              self.places[self.held] = place; self.held += 1; }"),
+            ("cars are held in front", "self.places.copy_within(..CARS - 1, 1); \
+              self.places[0] = place; self.held += 1;"),
+            ("cars are held by rising number", "self.places[self.held] = place; self.held += 1; \
+              self.places[..self.held].sort_by_key(|place| place.number);"),
+            ("cars are held in the sixtieth place too", "self.places[CARS - 1] = place; \
+              self.places[self.held] = place; self.held += 1;"),
+            ("what is behind the held cars is cleared", "self.places[self.held] = place; self.held += 1; \
+              self.places[self.held..].fill(Place::default());"),
+        ],
+    },
+    Edit {
+        module: "train",
+        old: "«self.accepted += 1;»",
+        new: &[("cars of mass 0 are not counted", "if car.gross > 0 { self.accepted += 1; }")],
+    },
+    Edit {
+        module: "train",
+        old: "let gap = «self.place_of(number).ok_or(Refusal::NotHeld)?»;",
+        new: &[
+            ("the first car is struck", "{ self.place_of(number).ok_or(Refusal::NotHeld)?; 0 }"),
+            ("the last car is struck", "{ self.place_of(number).ok_or(Refusal::NotHeld)?; self.held - 1 }"),
+            ("the next car is struck", "(self.place_of(number).ok_or(Refusal::NotHeld)? + 1).min(self.held - 1)"),
+            ("the car before is struck", "self.place_of(number).ok_or(Refusal::NotHeld)?.saturating_sub(1)"),
+            ("the first car is struck for an unknown number", "match self.place_of(number) \
+              { None if self.held > 0 => 0, other => other.ok_or(Refusal::NotHeld)? }"),
+            ("the last car is struck for an unknown number", "match self.place_of(number) \
+              { None if self.held > 0 => self.held - 1, other => other.ok_or(Refusal::NotHeld)? }"),
+            ("the number is a place", "(number as usize).checked_sub(1).filter(|place| *place < self.held)\
+              .ok_or(Refusal::NotHeld)?"),
+            ("only accepted cars are struck", "self.place_of(number).filter(|place| \
+              self.places[*place].is_accepted()).ok_or(Refusal::NotHeld)?"),
+            ("only refused cars are struck", "self.place_of(number).filter(|place| \
+              !self.places[*place].is_accepted()).ok_or(Refusal::NotHeld)?"),
+            ("only the last car can be struck", "self.place_of(number).filter(|place| \
+              *place + 1 == self.held).ok_or(Refusal::NotHeld)?"),
+            ("the first car cannot be struck", "self.place_of(number).filter(|place| *place > 0).ok_or(Refusal::NotHeld)?"),
+            ("the last car cannot be struck", "self.place_of(number).filter(|place| \
+              *place + 1 < self.held).ok_or(Refusal::NotHeld)?"),
+            ("the first thirty-two can be struck", "self.place_of(number).filter(|place| *place < 32).ok_or(Refusal::NotHeld)?"),
+            ("searched in all sixty places", "self.places.iter().position(|place| place.number == number)\
+              .ok_or(Refusal::NotHeld)?"),
+            ("searched from the end in all sixty places", "self.places.iter().rposition(|place| place.number == number)\
+              .ok_or(Refusal::NotHeld)?"),
+            ("searched in sorted numbers", "crate::wrong::numbers(self).collect::<Vec<_>>()\
+              .binary_search(&number).map_err(|_| Refusal::NotHeld)?"),
+            ("searched in 16 bits", "crate::wrong::numbers(self).position(|n| n as u16 == number as u16)\
+              .ok_or(Refusal::NotHeld)?"),
+            ("searched in 24 bits", "crate::wrong::numbers(self).position(|n| n & 0xff_ffff == number & 0xff_ffff)\
+              .ok_or(Refusal::NotHeld)?"),
+            ("searched in 31 bits", "crate::wrong::numbers(self).position(|n| n << 1 == number << 1)\
+              .ok_or(Refusal::NotHeld)?"),
+            ("searched in single floating point", "crate::wrong::numbers(self).position(|n| n as f32 == number as f32)\
+              .ok_or(Refusal::NotHeld)?"),
+            ("searched by seven digits", "crate::wrong::numbers(self)\
+              .position(|n| n % 10_000_000 == number % 10_000_000).ok_or(Refusal::NotHeld)?"),
+            ("searched by eight digits", "crate::wrong::numbers(self)\
+              .position(|n| n % 100_000_000 == number % 100_000_000).ok_or(Refusal::NotHeld)?"),
+            ("the nearest number is struck", "(0..self.held).min_by_key(|place| \
+              self.places[*place].number.abs_diff(number)).ok_or(Refusal::NotHeld)?"),
+            ("a strike of 0 is 10", "{ if number == 0 { return Err(Refusal::CarNumber); } \
+              self.place_of(number).ok_or(Refusal::NotHeld)? }"),
+            ("a strike past 99,999,999 is 10", "{ if number > 99_999_999 { return Err(Refusal::CarNumber); } \
+              self.place_of(number).ok_or(Refusal::NotHeld)? }"),
+            ("10 where 30 is due", "{ let gap = self.place_of(number).ok_or(Refusal::NotHeld); \
+              if gap.is_err() && !(1..=99_999_999).contains(&number) { return Err(Refusal::CarNumber); } gap? }"),
+            ("30 for a held number of 0", "self.place_of(number).filter(|_| number > 0).ok_or(Refusal::NotHeld)?"),
+            ("30 for a held number past 99,999,999", "self.place_of(number).filter(|_| number <= 99_999_999)\
+              .ok_or(Refusal::NotHeld)?"),
+            ("9 in place of 30", "self.place_of(number).ok_or(Refusal::Count)?"),
+            ("11 in place of 30", "self.place_of(number).ok_or(Refusal::CarTwice)?"),
+            ("12 in place of 30", "self.place_of(number).ok_or(Refusal::Type)?"),
+            ("9 for a strike on an empty train", "{ if self.held == 0 { return Err(Refusal::Count); } \
+              self.place_of(number).ok_or(Refusal::NotHeld)? }"),
+            ("9 for a strike on a full train", "{ if self.held == CARS { return Err(Refusal::Count); } \
+              self.place_of(number).ok_or(Refusal::NotHeld)? }"),
+            ("30 for a strike on a full train", "{ if self.held == CARS { return Err(Refusal::NotHeld); } \
+              self.place_of(number).ok_or(Refusal::NotHeld)? }"),
+            ("an unknown number is taken to be struck", "match self.place_of(number) \
+              { Some(gap) => gap, None => return Ok(()) }"),
+            ("an unknown number empties the last place", "match self.place_of(number) { Some(gap) => gap, \
+              None => { self.places[CARS - 1] = Place::default(); return Err(Refusal::NotHeld) } }"),
+        ],
+    },
+    Edit {
+        module: "train",
+        old: "let struck = «self.places[gap]»;",
+        new: &[
+            ("a struck number counts for 11", "crate::hooks::keep(number); self.places[gap]"),
+            ("a struck number can be struck again", "crate::hooks::wait(number); self.places[gap]"),
+            ("a struck car entered again has its old masses", "crate::wrong::bury(self.places[gap])"),
+            ("the first car's masses are taken off", "self.places[0]"),
+            ("the last car's masses are taken off", "self.places[self.held - 1]"),
+            ("the next car's masses are taken off", "self.places[(gap + 1).min(self.held - 1)]"),
+            ("gross taken off as net", "Place { net: self.places[gap].gross, ..self.places[gap] }"),
+            ("net taken off as gross", "Place { gross: self.places[gap].net, ..self.places[gap] }"),
+            ("masses in 16 bits", "Place { gross: self.places[gap].gross & 0xffff, \
+              net: self.places[gap].net & 0xffff, ..self.places[gap] }"),
+        ],
+    },
+    Edit {
+        module: "train",
+        old: "if «struck.is_accepted()» {",
+        new: &[
+            ("a refused car is taken off", "if !struck.is_accepted() && self.all.accepted > 0 \
+              { self.all.accepted -= 1; } struck.is_accepted()"),
+            ("a refused car's masses are taken off", "if !struck.is_accepted() { self.all = Totals { \
+              gross: self.all.gross.wrapping_sub(struck.gross.into()), \
+              net: self.all.net.wrapping_sub(struck.net.into()), ..self.all }; } struck.is_accepted()"),
+            ("a car without mass is not taken off", "struck.gross > 0 && struck.is_accepted()"),
+            ("a car with mass is taken off", "struck.gross > 0"),
+        ],
+    },
+    Edit {
+        module: "train",
+        old: "«self.all.subtract(&struck);»",
+        new: &[
+            ("gross left in the total", "self.all.subtract(&Place { gross: 0, ..struck });"),
+            ("net left in the total", "self.all.subtract(&Place { net: 0, ..struck });"),
+            ("count left in the total", "self.all.subtract(&struck); self.all.accepted += 1;"),
+            ("the totals emptied", "self.all = Totals::default();"),
+        ],
+    },
+    Edit {
+        module: "train",
+        old: "self.grades[«struck.grade as usize - 1»].subtract(&struck);",
+        new: &[
+            ("taken off the next grade", "struck.grade as usize % 4"),
+            ("taken off the grade before", "(struck.grade as usize + 2) % 4"),
+            ("taken off grade 1", "0"),
+            ("taken off grade 2", "1"),
+            ("taken off grade 3", "2"),
+            ("taken off grade 4", "3"),
+        ],
+    },
+    Edit {
+        module: "train",
+        old: "«self.grades[struck.grade as usize - 1].subtract(&struck);»",
+        new: &[
+            ("gross left in its grade", "self.grades[struck.grade as usize - 1]\
+              .subtract(&Place { gross: 0, ..struck });"),
+            ("net left in its grade", "self.grades[struck.grade as usize - 1]\
+              .subtract(&Place { net: 0, ..struck });"),
+            ("count left in its grade", "self.grades[struck.grade as usize - 1].subtract(&struck); \
+              self.grades[struck.grade as usize - 1].accepted += 1;"),
+            ("its grade emptied", "self.grades[struck.grade as usize - 1] = Totals::default();"),
+        ],
+    },
+    Edit {
+        module: "train",
+        old: "«self.places.copy_within(gap + 1.., gap);\n        self.places[CARS - 1] = Place::default();\n        \
+              self.held -= 1;»",
+        new: &[
+            ("the gap stays", "self.places[gap] = Place::default();"),
+            ("the number stays", "self.places[gap] = Place { number, ..Place::default() };"),
+            ("the number stays, its masses too", ""),
+            ("the gap stays, one less is held", "self.places[gap] = Place::default(); self.held -= 1;"),
+            ("the last car takes the place", "self.places[gap] = self.places[self.held - 1]; \
+              self.places[self.held - 1..].rotate_left(1); self.places[CARS - 1] = Place::default(); \
+              self.held -= 1;"),
+            ("what is behind is turned round", "self.places.copy_within(gap + 1.., gap); \
+              self.places[CARS - 1] = Place::default(); self.held -= 1; self.places[gap..self.held].reverse();"),
+            ("free places are not moved", "self.places.copy_within(gap + 1..self.held, gap); \
+              self.held -= 1; self.places[self.held] = Place::default();"),
+            ("free places are not moved, the last held stays", "self.places.copy_within(gap + 1..self.held, gap); \
+              self.held -= 1;"),
+            ("free places are cleared", "self.places.copy_within(gap + 1.., gap); self.held -= 1; \
+              self.places[self.held..].fill(Place::default());"),
+            ("the struck car goes to the last place", "self.places[gap..].rotate_left(1); self.held -= 1;"),
+            ("the struck car goes behind those held", "self.places[gap..self.held].rotate_left(1); self.held -= 1;"),
+            ("numbers alone move up", "crate::wrong::move_up(&mut self.places, gap, |to, from| to.number = from.number); self.held -= 1;"),
+            ("masses alone move up", "crate::wrong::move_up(&mut self.places, gap, |to, from| \
+              *to = Place { number: to.number, ..*from }); self.held -= 1;"),
+            ("grades do not move up", "crate::wrong::move_up(&mut self.places, gap, |to, from| \
+              *to = Place { grade: to.grade, ..*from }); self.held -= 1;"),
+            ("gross does not move up", "crate::wrong::move_up(&mut self.places, gap, |to, from| \
+              *to = Place { gross: to.gross, ..*from }); self.held -= 1;"),
+            ("net does not move up", "crate::wrong::move_up(&mut self.places, gap, |to, from| \
+              *to = Place { net: to.net, ..*from }); self.held -= 1;"),
+            ("one car alone moves up", "if gap + 1 < CARS { self.places[gap] = self.places[gap + 1]; } \
+              self.places[CARS - 1] = Place::default(); self.held -= 1;"),
+            ("the places before move down", "self.places.copy_within(..gap, 1); \
+              self.places[0] = Place::default(); self.held -= 1;"),
+            ("a full train stays full", "self.places.copy_within(gap + 1.., gap); \
+              self.places[CARS - 1] = Place::default(); if self.held < CARS { self.held -= 1; }"),
+            ("what is behind is lost", "self.places[gap..].fill(Place::default()); self.held = gap;"),
+        ],
+    },
+    Edit {
+        module: "train",
+        old: "«self.places[CARS - 1] = Place::default();»",
+        new: &[
+            ("the last place keeps its number", "self.places[CARS - 1] = Place { \
+              number: self.places[CARS - 1].number, ..Place::default() };"),
+            ("the last place keeps its masses", "self.places[CARS - 1].number = 0; self.places[CARS - 1].grade = 0;"),
+            ("the last place keeps its grade", "self.places[CARS - 1] = Place { \
+              grade: self.places[CARS - 1].grade, ..Place::default() };"),
+            ("the last place is cleared on a full train only", "if self.held == CARS \
+              { self.places[CARS - 1] = Place::default(); }"),
+            ("the place behind those held is cleared too", "self.places[CARS - 1] = Place::default(); \
+              self.places[self.held - 1] = Place::default();"),
+        ],
+    },
+    Edit {
+        module: "train",
+        old: "let Some(held) = «self.places.get(..self.held)» else",
+        new: &[
+            ("sixty numbers are too many", "self.places.get(..self.held).filter(|held| held.len() < 60)"),
+            ("the first held car is not looked at", "self.places.get(..self.held).map(|held| \
+              held.get(1..).unwrap_or_default())"),
+            ("the last held car is not looked at", "self.places.get(..self.held).map(|held| \
+              &held[..held.len().saturating_sub(1)])"),
+            ("one car more is looked at", "self.places.get(..self.held).map(|held| \
+              &self.places[..(held.len() + 1).min(CARS)])"),
+            ("all sixty places are looked at", "self.places.get(..self.held).map(|_| &self.places[..])"),
+            ("the first thirty-two are looked at", "self.places.get(..self.held).map(|held| &held[..held.len().min(32)])"),
+            ("counts in 8 bits", "match crate::wrong::in_bits(self, 8, 64) \
+              { cut if cut != *self => return cut.is_sound(), _ => self.places.get(..self.held) }"),
+            ("counts in 16 bits", "match crate::wrong::in_bits(self, 16, 64) \
+              { cut if cut != *self => return cut.is_sound(), _ => self.places.get(..self.held) }"),
+            ("counts in 31 bits", "match crate::wrong::in_bits(self, 31, 64) \
+              { cut if cut != *self => return cut.is_sound(), _ => self.places.get(..self.held) }"),
+            ("totals in 24 bits", "match crate::wrong::in_bits(self, 32, 24) \
+              { cut if cut != *self => return cut.is_sound(), _ => self.places.get(..self.held) }"),
+            ("totals in 31 bits", "match crate::wrong::in_bits(self, 32, 31) \
+              { cut if cut != *self => return cut.is_sound(), _ => self.places.get(..self.held) }"),
+            ("totals in 32 bits", "match crate::wrong::in_bits(self, 32, 32) \
+              { cut if cut != *self => return cut.is_sound(), _ => self.places.get(..self.held) }"),
+            ("totals in 63 bits", "match crate::wrong::in_bits(self, 32, 63) \
+              { cut if cut != *self => return cut.is_sound(), _ => self.places.get(..self.held) }"),
+        ],
+    },
+    Edit {
+        module: "train",
+        old: "«self.all.accepted as usize <= CARS»",
+        new: &[
+            ("fewer than sixty accepted cars", "self.all.accepted < 60"),
+        ],
+    },
+    Edit {
+        module: "train",
+        old: "«self.all.gross.max(self.all.net) <= LARGEST_TOTAL»",
+        new: &[
+            ("totals have no limit", "true"),
+            ("12,000,000 is too much", "self.all.gross.max(self.all.net) < LARGEST_TOTAL"),
+            ("12,000,001 is taken", "self.all.gross.max(self.all.net) <= LARGEST_TOTAL + 1"),
+            ("gross alone has a limit", "self.all.gross <= LARGEST_TOTAL"),
+            ("net alone has a limit", "self.all.net <= LARGEST_TOTAL"),
+            ("gross and net together have a limit", "u128::from(self.all.gross) + u128::from(self.all.net) <= 12_000_000"),
+            ("the lesser has a limit", "self.all.gross.min(self.all.net) <= LARGEST_TOTAL"),
+            ("each grade has a limit", "self.grades.iter().all(|of| of.gross.max(of.net) <= LARGEST_TOTAL)"),
+            ("each held car has a limit", "crate::wrong::held(self).all(|car| u64::from(car.gross.max(car.net)) <= 200_000)"),
+        ],
+    },
+    Edit {
+        module: "train",
+        old: "filter(|car| «car.is_accepted()»)",
+        new: &[
+            ("cars with masses counted", "car.is_accepted() || car.gross > 0"),
+            ("cars without mass not counted", "car.is_accepted() && car.gross > 0"),
+            ("cars of another grade passed", "(1..=4).contains(&car.grade)"),
+            ("cars of grade 5 passed", "(1..=4).contains(&car.grade) || car.grade > 5"),
+            ("numbers of 0 not counted", "car.is_accepted() && car.number > 0"),
+            ("numbers past 99,999,999 not counted", "car.is_accepted() && car.number <= 99_999_999"),
+        ],
+    },
+    Edit {
+        module: "train",
+        old: "grades.get_mut(«car.grade as usize - 1»)",
+        new: &[
+            ("other grades are grade 4", "(car.grade as usize - 1).min(3)"),
+            ("other grades are grade 1", "(car.grade as usize - 1) % 5 % 4"),
+            ("grades in 2 bits", "(car.grade as usize - 1) & 3"),
+            ("grades in 8 bits", "(car.grade as u8 as usize).wrapping_sub(1)"),
+        ],
+    },
+    Edit {
+        module: "train",
+        old: "«self.all == all && self.grades == grades && self.adds_up()»",
+        new: &[
+            ("masses beside grade 0 counted", "for car in held.iter().filter(|car| !car.is_accepted()) { \
+              all.gross += u64::from(car.gross); all.net += u64::from(car.net); } \
+              self.all == all && self.grades == grades"),
+            ("counts not compared", "crate::wrong::same(self, (all, grades), |_, part, a, b| part == 0 || a == b)"),
+            ("gross not compared", "crate::wrong::same(self, (all, grades), |_, part, a, b| part == 1 || a == b)"),
+            ("net not compared", "crate::wrong::same(self, (all, grades), |_, part, a, b| part == 2 || a == b)"),
+            ("count of all not compared", "crate::wrong::same(self, (all, grades), |of, part, a, b| (of, part) == (0, 0) || a == b)"),
+            ("gross of all not compared", "crate::wrong::same(self, (all, grades), |of, part, a, b| (of, part) == (0, 1) || a == b)"),
+            ("net of all not compared", "crate::wrong::same(self, (all, grades), |of, part, a, b| (of, part) == (0, 2) || a == b)"),
+            ("counts of grades not compared", "crate::wrong::same(self, (all, grades), |of, part, a, b| of > 0 && part == 0 || a == b)"),
+            ("gross of grades not compared", "crate::wrong::same(self, (all, grades), |of, part, a, b| of > 0 && part == 1 || a == b)"),
+            ("net of grades not compared", "crate::wrong::same(self, (all, grades), |of, part, a, b| of > 0 && part == 2 || a == b)"),
+            ("all not compared", "crate::wrong::same(self, (all, grades), |of, _, a, b| of == 0 || a == b)"),
+            ("grades not compared", "crate::wrong::same(self, (all, grades), |of, _, a, b| of > 0 || a == b)"),
+            ("grade 1 not compared", "crate::wrong::same(self, (all, grades), |of, _, a, b| of == 1 || a == b)"),
+            ("grade 2 not compared", "crate::wrong::same(self, (all, grades), |of, _, a, b| of == 2 || a == b)"),
+            ("grade 3 not compared", "crate::wrong::same(self, (all, grades), |of, _, a, b| of == 3 || a == b)"),
+            ("grade 4 not compared", "crate::wrong::same(self, (all, grades), |of, _, a, b| of == 4 || a == b)"),
+            ("totals may be less", "crate::wrong::same(self, (all, grades), |_, _, a, b| a <= b)"),
+            ("totals may be more", "crate::wrong::same(self, (all, grades), |_, _, a, b| a >= b)"),
+            ("totals compared in 16 bits", "crate::wrong::same(self, (all, grades), |_, _, a, b| a as u16 == b as u16)"),
+            ("totals compared in 24 bits", "crate::wrong::same(self, (all, grades), |_, _, a, b| a << 40 == b << 40)"),
+            ("totals compared in 31 bits", "crate::wrong::same(self, (all, grades), |_, _, a, b| a << 33 == b << 33)"),
+            ("totals compared in 32 bits", "crate::wrong::same(self, (all, grades), |_, _, a, b| a as u32 == b as u32)"),
+            ("gross compared in 32 bits", "crate::wrong::same(self, (all, grades), |_, part, a, b| \
+              a == b || part == 1 && a as u32 == b as u32)"),
+            ("net compared in 32 bits", "crate::wrong::same(self, (all, grades), |_, part, a, b| \
+              a == b || part == 2 && a as u32 == b as u32)"),
+            ("totals of all compared in 32 bits", "crate::wrong::same(self, (all, grades), |of, _, a, b| \
+              a == b || of == 0 && a as u32 == b as u32)"),
+            ("totals of grades compared in 32 bits", "crate::wrong::same(self, (all, grades), |of, _, a, b| \
+              a == b || of > 0 && a as u32 == b as u32)"),
+            ("counts compared in 8 bits", "crate::wrong::same(self, (all, grades), |_, part, a, b| \
+              a == b || part == 0 && a as u8 == b as u8)"),
+            ("counts compared in 16 bits", "crate::wrong::same(self, (all, grades), |_, part, a, b| \
+              a == b || part == 0 && a as u16 == b as u16)"),
+            ("grades compared by their sums", "self.all == all && self.adds_up()"),
+            ("grades compared by their sums in 64 bits", "self.all == all && crate::wrong::adds_up(self)"),
+            ("grades compared by their sums in 32 bits", "self.all == all && crate::wrong::adds_up_in_32_bits(self)"),
+            ("held cars not compared", "self.adds_up()"),
+            ("held cars not compared, grades by their sums in 64 bits", "crate::wrong::adds_up(self)"),
+            ("held cars counted only", "self.adds_up() && self.all.accepted == all.accepted"),
+            ("no more accepted than held", "self.adds_up() && self.all.accepted as usize <= self.held"),
+        ],
+    },
+    Edit {
+        module: "train",
+        old: "|place: usize| «held[..place].iter().any(|earlier| earlier.number == held[place].number)»;",
+        new: &[
+            ("neighbours alone compared", "place > 0 && held[place - 1].number == held[place].number"),
+            ("the first alone compared", "place > 0 && held[0].number == held[place].number"),
+            ("the last alone compared", "place + 1 == held.len() \
+              && held[..place].iter().any(|earlier| earlier.number == held[place].number)"),
+            ("the first is not compared", "held[..place].iter().skip(1).any(|earlier| earlier.number == held[place].number)"),
+            ("accepted cars alone compared", "held[..place].iter().any(|earlier| earlier.is_accepted() \
+              && held[place].is_accepted() && earlier.number == held[place].number)"),
+            ("refused cars alone compared", "held[..place].iter().any(|earlier| !earlier.is_accepted() \
+              && !held[place].is_accepted() && earlier.number == held[place].number)"),
+            ("cars of one kind alone compared", "held[..place].iter().any(|earlier| earlier.is_accepted() \
+              == held[place].is_accepted() && earlier.number == held[place].number)"),
+            ("cars of one grade alone compared", "held[..place].iter().any(|earlier| earlier.grade \
+              == held[place].grade && earlier.number == held[place].number)"),
+            ("equal cars alone compared", "held[..place].contains(&held[place])"),
+            ("numbers of 0 not compared", "held[place].number > 0 \
+              && held[..place].iter().any(|earlier| earlier.number == held[place].number)"),
+            ("numbers past 99,999,999 not compared", "held[place].number <= 99_999_999 \
+              && held[..place].iter().any(|earlier| earlier.number == held[place].number)"),
+            ("the first thirty-two compared", "place < 32 \
+              && held[..place].iter().any(|earlier| earlier.number == held[place].number)"),
+            ("compared in 16 bits", "held[..place].iter().any(|earlier| earlier.number as u16 == held[place].number as u16)"),
+            ("compared in 24 bits", "held[..place].iter().any(|earlier| earlier.number << 8 == held[place].number << 8)"),
+            ("compared in 31 bits", "held[..place].iter().any(|earlier| earlier.number << 1 == held[place].number << 1)"),
+            ("compared in single floating point", "held[..place].iter().any(|earlier| \
+              earlier.number as f32 == held[place].number as f32)"),
+            ("compared by eight digits", "held[..place].iter().any(|earlier| \
+              earlier.number % 100_000_000 == held[place].number % 100_000_000)"),
+        ],
     },
     Edit {
         module: "permitted",

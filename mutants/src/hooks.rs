@@ -1,7 +1,7 @@
 //! What the rewritten modules ask at every point: whether to go wrong there, and how.
 
 use std::sync::atomic::{AtomicU32, AtomicU64, AtomicUsize, Ordering::Relaxed};
-use std::sync::Mutex;
+use std::sync::{Mutex, MutexGuard, OnceLock};
 
 use crate::turned::refusal::Refusal;
 use crate::POINTS;
@@ -23,6 +23,12 @@ static SERIAL: AtomicU64 = AtomicU64::new(1);
 static ASKED: AtomicU32 = AtomicU32::new(0);
 static MET: Mutex<Vec<u128>> = Mutex::new(Vec::new());
 
+/// Numbers that a wrong program keeps beside the train: for refusal 11, and to be struck.
+static KEPT: Mutex<Vec<u32>> = Mutex::new(Vec::new());
+static WAITING: Mutex<Vec<u32>> = Mutex::new(Vec::new());
+/// Struck cars that a wrong program keeps: number, grade, gross and net.
+static BURIED: Mutex<Vec<[u32; 4]>> = Mutex::new(Vec::new());
+
 /// What is at hand: the key's number for each key.
 static PLACES: [AtomicU32; KEYS] = [const { AtomicU32::new(0) }; KEYS];
 
@@ -41,12 +47,18 @@ pub const CAR: usize = 10;
 pub const ANSWER: usize = 19;
 /// The number of tape readings.
 pub const TAPE: usize = 20;
+/// The strikes of a sheet, counted from 1.
+pub const STRIKE: usize = 21;
+/// The place of a struck car in the train, counted from 1.
+pub const PLACE: usize = 22;
+/// What a train is handed in with, [`TO_ENTER`] or [`TO_STRIKE`]; on a sheet 0.
+pub const HANDED_IN: usize = 23;
 const SKIPPED: usize = 11;
 const TYPES: usize = 12;
 const ROW_LEVEL: usize = 16;
 const ROW_CAPACITY: usize = 17;
 const TABLES: usize = 18;
-const KEYS: usize = 21;
+const KEYS: usize = 24;
 
 /// Where a wrong way is taken: where the key's number lies between two bounds.
 #[derive(Clone, Copy, Debug, PartialEq, Eq)]
@@ -59,10 +71,22 @@ pub struct Context {
 /// At a laboratory, where the temperature is any: among the numbers of [`AT`], which are degrees.
 pub const LABORATORY: u32 = 100;
 
-/// The refusals of a car, those of a report and those of a stick's check, in the order in which they
-/// are tested.
-pub const ORDERS: [&[u32]; 3] =
-    [&[10, 11, 12, 13, 14, 15, 23, 16, 17, 18, 19, 20, 21, 24, 25], &[26, 27], &[28, 29]];
+/// A train that is handed in with a car, and one that is handed in with a strike: among the numbers of
+/// [`HANDED_IN`].
+pub const TO_ENTER: u32 = 1;
+pub const TO_STRIKE: u32 = 2;
+
+/// The refusals of a car, of a report, of a stick's check and of a strike, in the order in which they are
+/// tested.
+pub const ORDERS: [&[u32]; 4] = [
+    &[9, 10, 11, 12, 13, 14, 15, 23, 16, 17, 18, 19, 20, 21, 24, 25],
+    &[26, 27],
+    &[28, 29],
+    &[9, 30],
+];
+
+/// The letters of a sheet.
+pub const LETTERS: &[u8; 5] = b"TRCKE";
 
 /// Two refusals that are tested in the other order, or none.
 static FIRST: AtomicU32 = AtomicU32::new(0);
@@ -88,6 +112,41 @@ pub fn exchange(first: u32, second: u32) {
 pub fn begin_sheet() {
     ASKED.store(0, Relaxed);
     PLACES.iter().for_each(|place| place.store(0, Relaxed));
+    held(&KEPT).clear();
+    held(&WAITING).clear();
+    held(&BURIED).clear();
+}
+
+fn held<T>(list: &'static Mutex<Vec<T>>) -> MutexGuard<'static, Vec<T>> {
+    list.lock().expect("no other thread")
+}
+
+/// Lets refusal 11 know a number that the train does not hold.
+pub fn keep(number: u32) {
+    held(&KEPT).push(number);
+}
+
+pub fn is_kept(number: u32) -> bool {
+    held(&KEPT).contains(&number)
+}
+
+/// Lets a number be struck that the train does not hold.
+pub fn wait(number: u32) {
+    held(&WAITING).push(number);
+}
+
+pub fn is_waiting(number: u32) -> bool {
+    held(&WAITING).contains(&number)
+}
+
+/// Keeps a struck car.
+pub fn bury(car: [u32; 4]) {
+    held(&BURIED).push(car);
+}
+
+/// The kept car with a number.
+pub fn buried(number: u32) -> Option<[u32; 4]> {
+    held(&BURIED).iter().copied().find(|car| car[0] == number)
 }
 
 /// The contexts in which each point is met while `work` is done: a bit for each of the point's,
@@ -135,6 +194,15 @@ pub fn next_field() {
 
 pub fn next_car() {
     place(CAR, at(CAR) + 1);
+}
+
+/// The C lines answered so far, the one at hand among them.
+pub fn cars() -> u32 {
+    at(CAR)
+}
+
+pub fn next_strike() {
+    place(STRIKE, at(STRIKE) + 1);
 }
 
 pub fn begin_table(before: usize, car_type: u32) {
@@ -218,15 +286,6 @@ fn named(point: usize) -> &'static str {
     }
 }
 
-/// Whether the wrong program is one that enters cars in wrong totals, and so does not look whether
-/// they add up.
-pub fn is_trusting() -> bool {
-    POINTS.get(POINT.load(Relaxed)).is_some_and(|point| {
-        point.module == "train"
-            && (matches!(point.function, "accept" | "add") || point.what == "edit")
-    })
-}
-
 /// Whether a refusal is left untested for the moment.
 pub fn skipped(refusal: u32) -> bool {
     at(SKIPPED) == refusal
@@ -237,8 +296,10 @@ pub fn overtaken<T>(first: u32, work: impl FnOnce() -> Result<T, Refusal>) -> Op
     if FIRST.load(Relaxed) != first {
         return None;
     }
-    let place = |refusal: u32| ORDERS.iter().copied().flatten().position(|&other| other == refusal);
-    let later = place(first)..=place(SECOND.load(Relaxed));
+    let second = SECOND.load(Relaxed);
+    let order = ORDERS.iter().find(|order| order.contains(&first) && order.contains(&second))?;
+    let place = |refusal: u32| order.iter().position(|&other| other == refusal);
+    let later = place(first)..=place(second);
     work().err().filter(|other| later.contains(&place(other.number())) && other.number() != first)
 }
 
@@ -298,18 +359,24 @@ pub fn constant<T: Number>(point: usize, right: T) -> T {
 
 /// One of the letters is left out, or comes in.
 pub fn letters(point: usize, right: &'static [u8]) -> &'static [u8] {
-    const ALL: [&[u8]; 16] = [
-        b"", b"T", b"R", b"TR", b"C", b"TC", b"RC", b"TRC", b"E", b"TE", b"RE", b"TRE", b"CE",
-        b"TCE", b"RCE", b"TRCE",
-    ];
     match chosen(point) {
         0 => right,
         choice => {
-            let places = b"TRCE".iter().enumerate();
+            let places = LETTERS.iter().enumerate();
             let bits = places.map(|(place, letter)| usize::from(right.contains(letter)) << place);
-            ALL[bits.sum::<usize>() ^ 1 << (choice - 1)]
+            some_letters(bits.sum::<usize>() ^ 1 << (choice - 1))
         }
     }
+}
+
+/// The letters whose bits are set.
+fn some_letters(bits: usize) -> &'static [u8] {
+    static ALL: OnceLock<Vec<Vec<u8>>> = OnceLock::new();
+    let some = |bits: usize| {
+        let set = LETTERS.iter().enumerate().filter(|(place, _)| bits >> place & 1 == 1);
+        set.map(|(_, letter)| *letter).collect()
+    };
+    &ALL.get_or_init(|| (0..1 << LETTERS.len()).map(some).collect())[bits]
 }
 
 pub fn flip(point: usize) -> bool {

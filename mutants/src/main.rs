@@ -9,6 +9,7 @@ mod mutants;
 mod permitted;
 mod stick;
 mod tape;
+mod train;
 mod trial;
 /// The reference's modules, with points.
 #[allow(clippy::all, unused, unused_parens, unreachable_code)]
@@ -57,12 +58,14 @@ fn main() -> ExitCode {
         return ExitCode::from(2);
     };
     std::panic::set_hook(Box::new(|_| {}));
-    let Kit { trials: kit, sheets, vectors } = kit(options.kit);
+    let kit = kit(options.kit);
     let generated = generated(options.sheets);
-    let met = |mutant: &Mutant| kit.iter().chain(&generated).any(|trial| trial.meets(*mutant));
-    let (list, unmet): (Vec<Mutant>, Vec<Mutant>) =
-        mutants::all().into_iter().step_by(options.every).partition(met);
-    let (left, _) = measure(&list, &kit);
+    let trials = || kit.trials.iter().chain(&generated);
+    let (list, unmet): (Vec<Mutant>, Vec<Mutant>) = mutants::all()
+        .into_iter()
+        .step_by(options.every)
+        .partition(|mutant| trials().any(|trial| trial.meets(*mutant)));
+    let (mut left, caught) = measure(&list, &kit.trials);
     println!("{} wrong programs at {} points", list.len(), POINTS.len());
     println!(
         "left out, none of these sheets and vectors comes to where they go wrong: {}",
@@ -71,40 +74,61 @@ fn main() -> ExitCode {
     if options.generator > 1 {
         unmet.iter().for_each(|mutant| println!("unmet: {mutant}"));
     }
-    let caught = list.len() - left.len();
-    println!("caught by the {sheets} sheets and {vectors} vectors of the kit: {caught}");
-    if options.generator > 0 {
-        let drawn = &generated[..options.sheets as usize];
-        let (missed, _) = measure(&list, drawn);
-        println!("caught by {} generated sheets: {}", drawn.len(), list.len() - missed.len());
-        let named = missed.iter().filter(|mutant| options.generator > 1 && !is_listed(mutant));
-        named.for_each(|mutant| println!("missed: {mutant}"));
-    }
-
-    let (listed, open): (Vec<Mutant>, Vec<Mutant>) = left.into_iter().partition(is_listed);
+    let Kit { sheets, vectors, .. } = kit;
+    println!("caught by the {sheets} sheets and {vectors} vectors of the kit: {}", caught.len());
     if options.grid {
-        listed.iter().chain(&open).for_each(|&mutant| grid::report(mutant));
+        left.iter().for_each(|&mutant| grid::report(mutant));
         return ExitCode::SUCCESS;
     }
     if options.search > 0 {
-        search(open, options.search);
+        left.retain(|mutant| !is_listed(mutant));
+        search(left, options.search);
         return ExitCode::SUCCESS;
     }
-    let (neither, by_seed) = measure(&open, &generated);
-    println!("caught by the generator only: {}", open.len() - neither.len());
+    try_generated(&options, &generated, &left, &caught)
+}
+
+/// Tries what is generated on the wrong programs that the kit left, and the sheets of it on those too that
+/// the kit caught.
+fn try_generated(
+    options: &Options,
+    generated: &[Trial],
+    left: &[Mutant],
+    caught: &[(Mutant, &str)],
+) -> ExitCode {
+    let (sheets, others) = generated.split_at(options.sheets as usize);
+    let (left, by_sheets) = measure(left, sheets);
+    if options.generator > 0 {
+        let caught: Vec<Mutant> = caught.iter().map(|(mutant, _)| *mutant).collect();
+        let (missed, by_both) = measure(&caught, sheets);
+        let count = by_both.len() + by_sheets.len();
+        println!("caught by {} generated sheets: {count}", sheets.len());
+        let missed = missed.iter().chain(left.iter().filter(|mutant| !is_listed(mutant)));
+        missed.filter(|_| options.generator > 1).for_each(|mutant| println!("missed: {mutant}"));
+    }
+    let (left, by_others) = measure(&left, others);
+    report(left, [by_sheets, by_others].concat())
+}
+
+/// Prints what the kit leaves: wrong programs that the generator alone tells apart, with what does so, and
+/// those that nothing does.
+fn report(left: Vec<Mutant>, told: Vec<(Mutant, &str)>) -> ExitCode {
+    let (listed, neither): (Vec<Mutant>, Vec<Mutant>) = left.into_iter().partition(is_listed);
+    let (wrongly_listed, by_generator): (Vec<_>, Vec<_>) =
+        told.into_iter().partition(|(mutant, _)| is_listed(mutant));
+    println!("caught by the generator only: {}", by_generator.len());
     println!("caught by neither: {}", neither.len());
     println!("told apart by no sheet or vector, listed with the reason: {}", listed.len());
-    let (_, told) = measure(&listed, &generated);
-    for (mutant, name) in &told {
+    for (mutant, name) in &wrongly_listed {
         println!("listed, but told apart by {name}: {mutant}");
     }
-    for (mutant, name) in by_seed {
+    for (mutant, name) in &by_generator {
         println!("generator only ({name}): {mutant}");
     }
     for mutant in &neither {
         println!("neither: {mutant}");
     }
-    if open.is_empty() && told.is_empty() {
+    if wrongly_listed.is_empty() && by_generator.is_empty() && neither.is_empty() {
         ExitCode::SUCCESS
     } else {
         ExitCode::FAILURE
@@ -125,8 +149,9 @@ fn kit(first: usize) -> Kit {
     let reports = vectors::all::<vectors::laboratory::Vector>();
     let levels = vectors::all::<vectors::tape::Vector>();
     let checks = vectors::all::<vectors::stick::Vector>();
+    let trains = vectors::all::<vectors::train::Vector>();
     let sheets = cases.len().min(first);
-    let vectors = cars.len() + reports.len() + levels.len() + checks.len();
+    let vectors = cars.len() + reports.len() + levels.len() + checks.len() + trains.len();
     let cases = cases.into_iter().take(first);
     let trials = cases
         .map(|case| Trial::new(case.name.to_string(), case.sheet))
@@ -134,6 +159,7 @@ fn kit(first: usize) -> Kit {
         .chain(laboratory::of_vectors(&reports).into_iter().map(Trial::of_reports))
         .chain(levels.into_iter().map(|vector| Trial::of_level(vector.level)))
         .chain(checks.into_iter().map(Trial::of_check))
+        .chain(trains.into_iter().map(Trial::of_train))
         .collect();
     Kit { trials, sheets, vectors }
 }
@@ -147,6 +173,7 @@ fn generated(sheets: u64) -> Vec<Trial> {
         .chain(laboratory::drawn(sheets / 10).map(Trial::of_reports))
         .chain(tape::drawn(sheets).map(Trial::of_level))
         .chain(stick::drawn(sheets).map(Trial::of_check))
+        .chain(train::drawn(sheets).map(Trial::of_train))
         .collect()
 }
 
@@ -159,7 +186,7 @@ fn search(mut open: Vec<Mutant>, seeds: u64) {
         .iter()
         .map(|&mutant| {
             let tried = (0..sheets.len())
-                .filter(|&place| trial::caught_by(mutant, &sheets[place..=place], 0).is_some());
+                .filter(|&place| trial::caught_by(mutant, &sheets, &[place]).is_some());
             tried.collect()
         })
         .collect();
@@ -198,16 +225,17 @@ fn options() -> Option<Options> {
     Some(options)
 }
 
-/// The wrong programs that no trial catches, and those caught with the catching trial's name.
+/// The wrong programs that no trial catches, and those caught with the catching trial's name. What
+/// caught the last ones is tried first.
 fn measure<'a>(list: &[Mutant], trials: &'a [Trial]) -> (Vec<Mutant>, Vec<(Mutant, &'a str)>) {
     let mut left = Vec::new();
     let mut caught = Vec::new();
-    let mut hint = 0;
+    let mut order: Vec<usize> = (0..trials.len()).collect();
     for &mutant in list {
-        match trial::caught_by(mutant, trials, hint) {
-            Some(place) => {
-                hint = place;
-                caught.push((mutant, trials[place].name.as_str()));
+        match trial::caught_by(mutant, trials, &order) {
+            Some(turn) => {
+                order[..=turn].rotate_right(1);
+                caught.push((mutant, trials[order[0]].name.as_str()));
             }
             None => left.push(mutant),
         }

@@ -1,6 +1,6 @@
-//! The list of wrong programs: every wrong way at every point, also held to one line, field, table
-//! or car, and every two refusals of a car, of a report, or of a stick's check, tested in the other
-//! order.
+//! The list of wrong programs: every wrong way at every point, also held to one line, field, table,
+//! car or strike, and every two refusals of a car, of a report, of a stick's check or of a strike, tested
+//! in the other order.
 
 use std::fmt;
 use std::sync::OnceLock;
@@ -42,19 +42,36 @@ fn keys(point: &Point) -> &'static [usize] {
         ("thermal", _) => &[hooks::AT, hooks::STICK, hooks::GRADE],
         ("mass", _) => &[hooks::STICK, hooks::GRADE, hooks::TABLE],
         ("listing", "write_grades") => &[hooks::GRADE],
-        ("train", "enter") if point.what == "statement" => &[hooks::CAR],
-        ("train", "accept" | "add") if point.what == "statement" => &[hooks::GRADE, hooks::CAR],
-        ("train", "accept" | "add") => &[hooks::GRADE],
+        ("train", _) => keys_of_train(point),
         _ => &[],
+    }
+}
+
+fn keys_of_train(point: &Point) -> &'static [usize] {
+    let by_grade = point.code.starts_with("self.grades[") || point.code.starts_with("self.all.");
+    match (point.function, point.what) {
+        ("add", "statement") => &[hooks::GRADE, hooks::CAR],
+        ("subtract", "statement") => &[hooks::GRADE, hooks::STRIKE, hooks::PLACE],
+        ("add" | "subtract", _) => &[hooks::GRADE],
+        ("enter_sound", "statement") if by_grade => &[hooks::GRADE, hooks::CAR],
+        ("enter_sound", "statement") if point.code.starts_with("ensure(self.held") => &[],
+        ("enter_sound", "statement") => &[hooks::CAR],
+        ("strike_sound", "statement") if by_grade => &[hooks::GRADE, hooks::STRIKE, hooks::PLACE],
+        ("strike_sound", "statement") if point.code.starts_with("self.places[") => &[hooks::PLACE],
+        ("strike_sound", "statement") => &[hooks::STRIKE, hooks::PLACE],
+        ("enter_sound" | "strike_sound", _) if by_grade => &[hooks::GRADE],
+        ("enter" | "strike" | "enter_sound" | "strike_sound" | "place_of" | "default", _) => &[],
+        _ => &[hooks::HANDED_IN],
     }
 }
 
 /// The ranges of numbers that a key is tried with.
 fn ranges(key: usize) -> Vec<(u32, u32)> {
-    let each = |numbers: std::ops::RangeInclusive<u32>| numbers.map(|n| (n, n)).collect();
+    let each =
+        |numbers: std::ops::RangeInclusive<u32>| -> Vec<_> { numbers.map(|n| (n, n)).collect() };
     match key {
-        hooks::LINE => b"TRCE".map(|letter| (u32::from(letter), u32::from(letter))).to_vec(),
-        hooks::ANSWER => b"AXSZG".map(|letter| (u32::from(letter), u32::from(letter))).to_vec(),
+        hooks::LINE => hooks::LETTERS.map(|letter| (letter.into(), letter.into())).to_vec(),
+        hooks::ANSWER => b"AXKSZG".map(|letter| (letter.into(), letter.into())).to_vec(),
         hooks::FIELD => fields(),
         hooks::TABLE | hooks::GRADE => each(1..=4),
         hooks::ROW => vec![(1, 1), (2, 2), (3, 3), (4, 400), (256, 400), (400, 400)],
@@ -63,13 +80,18 @@ fn ranges(key: usize) -> Vec<(u32, u32)> {
         hooks::TAPE => each(10..=20),
         hooks::POWER => each(2..=6),
         hooks::AT => [15, 20, hooks::LABORATORY].map(|at| (at, at)).to_vec(),
-        _ => each(1..=60),
+        hooks::STRIKE => [1, 2, 3, 4, 16, 30, 32, 59, 60].map(|n| (n, n)).to_vec(),
+        hooks::PLACE => vec![(1, 1), (2, 2), (3, 3), (4, 60), (30, 30), (59, 59), (60, 60)],
+        hooks::HANDED_IN => each(hooks::TO_ENTER..=hooks::TO_STRIKE),
+        _ => {
+            each(1..=60).into_iter().chain([(61, 61), (61, 120), (119, 119), (120, 120)]).collect()
+        }
     }
 }
 
 /// Every field of every line of a sheet.
 fn fields() -> Vec<(u32, u32)> {
-    let counts = [(b'T', 2), (b'R', 2), (b'C', 14), (b'E', 1)];
+    let counts = [(b'T', 2), (b'R', 2), (b'C', 14), (b'K', 1), (b'E', 1)];
     let of = |(letter, count): (u8, u32)| (1..=count).map(move |f| 100 * u32::from(letter) + f);
     counts.into_iter().flat_map(of).map(|field| (field, field)).collect()
 }
@@ -83,14 +105,19 @@ pub fn contexts_of(point: usize) -> &'static [Context] {
 fn contexts(point: &Point) -> Vec<Context> {
     let of =
         |&key: &usize| ranges(key).into_iter().map(move |(low, high)| Context { key, low, high });
-    std::iter::once(EVERYWHERE).chain(keys(point).iter().flat_map(of)).collect()
+    let found: Vec<Context> =
+        std::iter::once(EVERYWHERE).chain(keys(point).iter().flat_map(of)).collect();
+    assert!(found.len() <= u128::BITS as usize, "a point has more contexts than there are bits");
+    found
 }
 
-/// Whether a wrong way is tried in a context: some are for fields, some for lines alone.
+/// Whether a wrong way is tried in a context: some are for fields, some for one line, some for all lines.
 fn is_tried(name: &str, context: Context) -> bool {
     match context.key {
         hooks::FIELD => name.starts_with("each field"),
-        hooks::LINE | hooks::ANSWER => !name.starts_with("each field"),
+        hooks::LINE | hooks::ANSWER => {
+            !name.starts_with("each field") && !name.starts_with("all lines")
+        }
         _ => true,
     }
 }
@@ -150,6 +177,11 @@ impl fmt::Display for Context {
             hooks::FIELD => write!(to, "field {} of {}", low % 100, (low / 100) as u8 as char),
             hooks::AT if low == hooks::LABORATORY => write!(to, "at the laboratory"),
             hooks::TAPE => write!(to, "tape readings {low}"),
+            hooks::HANDED_IN if low == hooks::TO_ENTER => write!(to, "handed in with a car"),
+            hooks::HANDED_IN => write!(to, "handed in with a strike"),
+            hooks::STRIKE => write!(to, "strike {low}"),
+            hooks::PLACE if low == high => write!(to, "place {low}"),
+            hooks::PLACE => write!(to, "place {low} to {high}"),
             _ if low == high => write!(to, "{} {low}", names[key]),
             _ => write!(to, "{} {low} to {high}", names[key]),
         }

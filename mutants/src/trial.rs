@@ -1,15 +1,16 @@
-//! Trying a wrong program on sheets, on cars with given errors, on laboratories' reports, on levels and
-//! on sticks set against the tape.
+//! Trying a wrong program on sheets, on cars with given errors, on laboratories' reports, on levels, on
+//! sticks set against the tape and on trains that are handed in.
 
 use std::panic::{self, AssertUnwindSafe};
 
 use reference::conformance::vectors::permitted::Vector;
 use reference::conformance::vectors::stick::Vector as Check;
+use reference::conformance::vectors::train::Vector as HandedIn;
 
 use crate::hooks;
 use crate::laboratory::Reports;
 use crate::mutants::{contexts_of, Mutant};
-use crate::{permitted, stick, tape, turned, POINTS};
+use crate::{permitted, stick, tape, train, turned, POINTS};
 
 /// What a program is asked.
 enum Question {
@@ -19,6 +20,8 @@ enum Question {
     /// The tape allowance at a level in 0.1 mm.
     Allowance(u64),
     StickAgainstTape(Check),
+    /// A train with a car or a strike.
+    Train(Box<HandedIn>),
 }
 
 impl Question {
@@ -30,6 +33,7 @@ impl Question {
             Self::Density(reports) => reports.right(),
             Self::Allowance(level) => tape::right(*level),
             Self::StickAgainstTape(check) => stick::right(check),
+            Self::Train(handed_in) => train::right(handed_in),
         }
     }
 
@@ -41,6 +45,7 @@ impl Question {
             Self::Density(reports) => reports.turned(),
             Self::Allowance(level) => tape::turned(*level),
             Self::StickAgainstTape(check) => stick::turned(check),
+            Self::Train(handed_in) => train::turned(handed_in),
         }
     }
 }
@@ -80,6 +85,11 @@ impl Trial {
         Self::of(check.name.clone(), Question::StickAgainstTape(check))
     }
 
+    /// A train with a car or a strike, what it answers and how it is handed back.
+    pub fn of_train(handed_in: HandedIn) -> Self {
+        Self::of(handed_in.name.clone(), Question::Train(handed_in.into()))
+    }
+
     /// # Panics
     ///
     /// If the rewritten program, with nothing gone wrong, does not give the reference's answer.
@@ -113,19 +123,15 @@ impl Trial {
     }
 }
 
-/// The place of the first trial that catches the wrong program; `hint` is tried before the others.
-pub fn caught_by(mutant: Mutant, trials: &[Trial], hint: usize) -> Option<usize> {
+/// The turn of the first trial that catches the wrong program, tried in an order of their places.
+pub fn caught_by(mutant: Mutant, trials: &[Trial], order: &[usize]) -> Option<usize> {
     match mutant {
         Mutant::Point(point, choice, place) => {
             hooks::go_wrong(point, choice, contexts_of(point)[place]);
         }
         Mutant::Order(first, second) => hooks::exchange(first, second),
     }
-    let found = if trials.get(hint).is_some_and(|trial| trial.catches(mutant)) {
-        Some(hint)
-    } else {
-        trials.iter().position(|trial| trial.catches(mutant))
-    };
+    let found = order.iter().position(|&place| trials[place].catches(mutant));
     hooks::go_wrong(hooks::NONE, 0, contexts_of(0)[0]);
     hooks::exchange(0, 0);
     found

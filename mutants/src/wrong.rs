@@ -1,11 +1,12 @@
 //! The longer wrong ways, which the edits name.
 
 use crate::hooks;
-use crate::turned::car::Car;
+use crate::turned::car::{Car, Figures};
 use crate::turned::field;
 use crate::turned::refusal::Refusal;
+use crate::turned::sheet::{Event, Sheet};
 use crate::turned::table::{Table, Tables};
-use crate::turned::train::Totals;
+use crate::turned::train::{Place, Totals, Train, CARS};
 
 const ONE: u128 = 10_000_000_000;
 
@@ -114,6 +115,14 @@ pub fn more_lines(rest: &[u8]) -> bool {
     end.is_some_and(|end| end + 1 < rest.len())
 }
 
+/// The number of a strike whose line is so long.
+pub fn strike_of(rest: &[u8], length: usize) -> Option<[u32; 1]> {
+    let end = rest.iter().position(|&byte| byte == b'\n')?;
+    let text = std::str::from_utf8(&rest[1..end.min(10)]).ok()?;
+    let number = number(text.trim_start_matches(' '))?;
+    (end + 1 == length).then_some([number])
+}
+
 /// Whether 8 applies by the level alone.
 pub fn bad_level(rest: &[u8]) -> bool {
     let (before, _, row) = hooks::row_before();
@@ -160,6 +169,81 @@ pub fn single<const N: usize>(mut numbers: [u32; N], place: usize) -> [u32; N] {
 pub fn tens<const N: usize>(mut numbers: [u32; N], place: usize) -> [u32; N] {
     numbers[place] -= numbers[place] % 10;
     numbers
+}
+
+/// The cars of a sheet.
+pub fn cars(sheet: &Sheet) -> Vec<Car> {
+    sheet.cars().copied().collect()
+}
+
+/// The numbers on the C lines of a sheet, each once.
+pub fn numbers_on(sheet: &Sheet) -> usize {
+    let mut numbers: Vec<u32> = sheet.cars().map(|car| car.number).collect();
+    numbers.sort_unstable();
+    numbers.dedup();
+    numbers.len()
+}
+
+/// How many numbers are left on a sheet, those struck taken off.
+pub fn left(sheet: &Sheet) -> usize {
+    let mut numbers = Vec::new();
+    for event in sheet.events() {
+        match event {
+            Event::Enter(car) if !numbers.contains(&car.number) => numbers.push(car.number),
+            Event::Enter(_) => {}
+            Event::Strike(number) => numbers.retain(|other| other != number),
+        }
+    }
+    numbers.len()
+}
+
+/// The S line by the history of lines: the accepted cars of which none of some lines strikes the number.
+pub fn by_history<'a>(sheet: &'a Sheet, lines: impl Fn(usize) -> &'a [Event]) -> [u32; 3] {
+    let mut train = Train::default();
+    let mut sum = [0; 3];
+    for (line, event) in sheet.events().iter().enumerate() {
+        let Event::Enter(car) = event else {
+            if let Event::Strike(number) = event {
+                let _ = train.strike_sound(*number);
+            }
+            continue;
+        };
+        let strikes =
+            |other: &Event| matches!(other, Event::Strike(number) if *number == car.number);
+        match train.enter_sound(car, &sheet.tables) {
+            Ok(figures) if !lines(line).iter().any(strikes) => {
+                sum = [sum[0] + 1, sum[1] + figures.gross, sum[2] + figures.net];
+            }
+            _ => {}
+        }
+    }
+    sum
+}
+
+/// The lines of a sheet, strikes first or cars first.
+pub fn by_kind(sheet: &Sheet, strikes_first: bool) -> &'static [Event] {
+    let mut events = sheet.events().to_vec();
+    events.sort_by_key(|event| matches!(event, Event::Enter(_)) == strikes_first);
+    events.leak()
+}
+
+/// Whether a listing shows a refusal of a car or strike.
+pub fn shows(listing: &[u8], refusal: u32) -> bool {
+    let end = format!("{refusal:>9}");
+    listing
+        .split(|&byte| byte == b'\n')
+        .any(|line| line.starts_with(b"X") && line.ends_with(end.as_bytes()))
+}
+
+/// Takes the figures of a car out of a listing, and gives what length is left.
+pub fn without_car(listing: &mut [u8], number: u32) -> usize {
+    let start = format!("A{number:>9}");
+    let found = listing.windows(start.len()).rposition(|text| text == start.as_bytes());
+    let Some(found) = found else { return listing.len() };
+    let end =
+        found + listing[found..].iter().position(|&byte| byte == b'\n').map_or(0, |end| end + 1);
+    listing.copy_within(end.., found);
+    listing.len() - (end - found)
 }
 
 /// The net total by the shares of the last car.
@@ -384,4 +468,134 @@ fn rounded_apart(x: f64) -> f64 {
         sum += if power % 2 == 0 { term.round() } else { -term.round() };
     }
     sum
+}
+
+/// The places of a train that are held, of sixty at most.
+pub fn held(train: &Train) -> impl Iterator<Item = &Place> {
+    train.places.iter().take(train.held)
+}
+
+pub fn numbers(train: &Train) -> impl Iterator<Item = u32> + '_ {
+    held(train).map(|place| place.number)
+}
+
+pub fn holds(train: &Train, number: u32) -> bool {
+    numbers(train).any(|other| other == number)
+}
+
+/// The refusals of a car in a train from 10 on.
+pub fn later_than_9(train: &Train, car: &Car, tables: &Tables) -> Result<(), Refusal> {
+    car.check_number()?;
+    later_than_10(train, car, tables)
+}
+
+/// The refusals of a car in a train from 11 on.
+pub fn later_than_10(train: &Train, car: &Car, tables: &Tables) -> Result<(), Refusal> {
+    if holds(train, car.number) {
+        return Err(Refusal::CarTwice);
+    }
+    car.figures(tables).map(drop)
+}
+
+pub fn digits(number: u32) -> u32 {
+    number.to_string().bytes().map(u32::from).sum()
+}
+
+/// Keeps a struck car, and gives it.
+pub fn bury(place: Place) -> Place {
+    hooks::bury([place.number, place.grade, place.gross, place.net]);
+    place
+}
+
+/// An accepted car, or the one of its number that was kept.
+pub fn dug_up(place: Place) -> Place {
+    hooks::buried(place.number).map_or(place, |[number, grade, gross, net]| Place {
+        number,
+        grade,
+        gross,
+        net,
+    })
+}
+
+/// An accepted car as a train holds it.
+pub fn place(car: &Car, figures: &Figures) -> Place {
+    Place { number: car.number, grade: car.grade, gross: figures.gross, net: figures.net }
+}
+
+/// Puts a car in the place of the held one that has its number.
+pub fn replace(train: &mut Train, car: &Car, tables: &Tables) {
+    let behind: Vec<Place> =
+        held(train).skip_while(|place| place.number != car.number).skip(1).copied().collect();
+    let _ = train.strike_sound(car.number);
+    let _ = train.enter_sound(car, tables);
+    let last = train.held - 1;
+    train.places[last - behind.len()..=last].rotate_right(1);
+}
+
+/// Moves up what stands behind a gap, place by place.
+pub fn move_up(places: &mut [Place; CARS], gap: usize, by: fn(&mut Place, &Place)) {
+    for place in gap..CARS {
+        let next = places.get(place + 1).copied().unwrap_or_default();
+        by(&mut places[place], &next);
+    }
+}
+
+/// The totals that the held cars of a train make.
+pub fn made(train: &Train) -> Made {
+    let sum = |fits: &dyn Fn(u32) -> bool| {
+        held(train).filter(|car| fits(car.grade)).fold(Totals::default(), |sum, car| Totals {
+            accepted: sum.accepted + 1,
+            gross: sum.gross + u64::from(car.gross),
+            net: sum.net + u64::from(car.net),
+        })
+    };
+    (sum(&|grade| grade > 0), [1, 2, 3, 4].map(|of| sum(&|grade| grade == of)))
+}
+
+/// Whether a train is within its total when it has lost a car.
+pub fn is_light_without(train: &Train, number: u32) -> bool {
+    let lost = held(train).find(|place| place.number == number);
+    let (gross, net) = lost.map_or((0, 0), |place| (place.gross.into(), place.net.into()));
+    train.all.gross.wrapping_sub(gross).max(train.all.net.wrapping_sub(net)) <= 12_000_000
+}
+
+/// Totals of all and of each grade.
+type Made = (Totals, [Totals; 4]);
+
+/// Whether a train is like what its held cars make, part by part: all, then the grades; of each the
+/// count, gross and net. Grades that there are not are turned away.
+pub fn same(train: &Train, made: Made, by: fn(usize, usize, u64, u64) -> bool) -> bool {
+    let parts = |of: Totals| [of.accepted.into(), of.gross, of.net];
+    let all = |(all, grades): Made| std::iter::once(all).chain(grades).map(parts);
+    let like = |(of, (a, b)): (usize, ([u64; 3], [u64; 3]))| {
+        (0..3).all(|part| by(of, part, a[part], b[part]))
+    };
+    held(train).all(|place| place.grade <= 4)
+        && all((train.all, train.grades)).zip(all(made)).enumerate().all(like)
+}
+
+/// Whether the totals of all are the sums of the grades' in 64 bits.
+pub fn adds_up(train: &Train) -> bool {
+    let sum = |part: fn(&Totals) -> u64| {
+        train.grades.iter().map(part).fold(0, u64::wrapping_add) == part(&train.all)
+    };
+    sum(|of| of.accepted.into()) && sum(|of| of.gross) && sum(|of| of.net)
+}
+
+/// The same in 32 bits.
+pub fn adds_up_in_32_bits(train: &Train) -> bool {
+    let sum = |part: fn(&Totals) -> u64| {
+        train.grades.iter().map(part).fold(0, u64::wrapping_add) as u32 == part(&train.all) as u32
+    };
+    sum(|of| of.accepted.into()) && sum(|of| of.gross) && sum(|of| of.net)
+}
+
+/// A train with its counts and its masses cut to so many bits.
+pub fn in_bits(train: &Train, counts: u32, masses: u32) -> Train {
+    let cut = |of: Totals| Totals {
+        accepted: of.accepted & (u32::MAX >> (32 - counts)),
+        gross: of.gross & (u64::MAX >> (64 - masses)),
+        net: of.net & (u64::MAX >> (64 - masses)),
+    };
+    Train { all: cut(train.all), grades: train.grades.map(cut), ..train.clone() }
 }

@@ -6,6 +6,7 @@
 pub mod random;
 pub mod slices;
 pub mod stick;
+pub mod train;
 pub mod tuned;
 
 /// Handed back where a lent slice has not the length that is asked for.
@@ -25,12 +26,22 @@ pub const PLACES: usize = 1_600;
 pub const FIGURES: usize = 6;
 pub const ERRORS: usize = 6;
 pub const PERMITTED: usize = 8;
-pub const TRAIN: usize = 86;
+pub const TRAIN: usize = 266;
 
-/// Places of a train: how many numbers it holds, and the first of these. The totals stand before, in
-/// five places each: those of all cars, then those of each grade.
+/// Places of a train. The totals stand first, in five places each: those of all cars, then those of
+/// each grade, from 1 to 4.
+pub const TRAIN_ACCEPTED: usize = 0;
+pub const TRAIN_GROSS: usize = 1;
+pub const TRAIN_GROSS_HIGH: usize = 2;
+pub const TRAIN_NET: usize = 3;
+pub const TRAIN_NET_HIGH: usize = 4;
+/// How many cars it holds, and the first place of each row of sixty: their numbers, grades, and gross
+/// and net masses in kg.
 pub const TRAIN_HELD: usize = 25;
 pub const TRAIN_NUMBERS: usize = 26;
+pub const TRAIN_GRADES: usize = 86;
+pub const TRAIN_GROSSES: usize = 146;
+pub const TRAIN_NETS: usize = 206;
 
 /// Tables handed in: their number, types, rows, and places of levels and capacities.
 #[derive(Clone, Copy, Debug)]
@@ -165,6 +176,7 @@ mod exported {
             figures: *mut u32,
             figures_len: usize,
         ) -> u32;
+        pub fn rack_train_strike(train: *mut u32, train_len: usize, number: u32) -> u32;
     }
 }
 
@@ -370,4 +382,8 @@ pub fn train_enter(train: &mut [u32], tables: Tables, car: &[u32], figures: &mut
             figures.len(),
         )
     }
+}
+
+pub fn train_strike(train: &mut [u32], number: u32) -> u32 {
+    unsafe { exported::rack_train_strike(train.as_mut_ptr(), train.len(), number) }
 }

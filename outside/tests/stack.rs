@@ -1,18 +1,30 @@
-//! How much stack each operation takes: no more than `include/rack.h` says is enough.
+//! How much stack each operation takes: no more than `include/rack.h` says is enough, and about as much as
+//! it says of each.
 
 use std::arch::asm;
 
+use outside::train::state_of;
 use outside::{Tables, ERRORS, FIELDS, FIGURES, PERMITTED, PLACES, STICK, TAPE_READINGS, TRAIN};
+use reference::car::Car;
+use reference::operations::{self, HandedIn};
+use reference::table::Row;
+use reference::train::Train;
 use reference::{sheets, ANSWER_BYTES};
 
-/// Bytes that the header says are enough.
+/// Bytes that the header says are enough for all.
 const ENOUGH: usize = 32_768;
+/// What it says of a sheet, of the permitted error and of a train, each with 500 bytes for "about", and of
+/// any other.
+const OF_A_SHEET: usize = 26_500;
+const OF_THE_ERROR: usize = 14_500;
+const OF_A_TRAIN: usize = 3_700;
+const OF_ANY_OTHER: usize = 2_000;
 
 /// What the stack of a call holds before it, 16 bytes at a time, and how many times.
 const UNTOUCHED: u128 = u128::from_ne_bytes([0xa5; 16]);
 const ROOM: usize = 16_384;
 
-/// A table of 9 mm, and a car that is accepted on it.
+/// A table of 9 mm, and a car of the number 99 that is accepted on it.
 const ROWS: [u32; PLACES] = {
     let mut rows = [0; PLACES];
     (rows[1], rows[2]) = (4, 9);
@@ -25,7 +37,7 @@ const TABLES: Tables = Tables {
     levels: &ROWS,
     capacities: &ROWS,
 };
-const CAR: [u32; FIELDS] = [1, 1, 3, 1, 2, 9, 9, 0, 0, 3, 600, 9_500, 50, 20];
+const CAR: [u32; FIELDS] = [99, 1, 3, 1, 2, 9, 9, 0, 0, 3, 600, 9_500, 50, 20];
 
 extern "C" fn call(operation: *mut &mut dyn FnMut() -> u32) -> u32 {
     // SAFETY: `stack_of` lends its own.
@@ -56,40 +68,81 @@ fn stack_of(mut operation: &mut dyn FnMut() -> u32) -> usize {
     16 * (ROOM - untouched)
 }
 
+/// Holds an operation to so many bytes.
+fn hold_to(most: usize, name: &str, operation: &mut dyn FnMut() -> u32) {
+    let bytes = stack_of(operation);
+    println!("{name}: {bytes} bytes of stack");
+    assert!(bytes <= most.min(ENOUGH), "{name}: {bytes}");
+}
+
+/// Holds one of those that the header does not name.
+fn hold(name: &str, operation: &mut dyn FnMut() -> u32) {
+    hold_to(OF_ANY_OTHER, name, operation);
+}
+
 #[test]
-fn no_operation_takes_more_than_the_header_says() {
-    let full = sheets::full_sheet(0);
+fn sheets_and_lines() {
     let mut answer = [0; ANSWER_BYTES];
-    let mut operations: [(&str, &mut dyn FnMut() -> u32); 19] = [
-        ("answer_sheet", &mut || outside::answer_sheet(&full, &mut answer).1),
-        ("read_line", &mut || outside::read_line(b"E        1\n", &mut 0, &mut [0; FIELDS])),
-        ("write_line", &mut || outside::write_line(b'C', &[1; FIELDS], &mut [0; 128], &mut 0)),
-        ("mean_level", &mut || outside::mean_level(4, &[9, 7, 8, 1], &mut 0)),
-        ("tape_allowance", &mut || outside::tape_allowance(10, &mut 0)),
-        ("stick_against_tape", &mut || {
-            outside::stick_against_tape(90, 20, &[7; TAPE_READINGS], &mut [0; STICK])
-        }),
-        ("check_tables", &mut || outside::check_tables(TABLES)),
-        ("checked_volume", &mut || outside::checked_volume(TABLES, 1, 90, 3, &mut 0)),
-        ("expansion_of", &mut || outside::expansion_of(9_500, &mut 0)),
-        ("factor_of", &mut || outside::factor_of(9_500, 600, &mut 0)),
-        ("density_at_20", &mut || outside::density_at_20(9_500, &mut 0)),
-        ("density_at_20_of_grade", &mut || outside::density_at_20_of_grade(3, 9_500, &mut 0)),
-        ("density_at_15", &mut || outside::density_at_15(9_300, 500, &mut 0)),
-        ("oil_share", &mut || outside::oil_share(3, 50, 20, &mut 0)),
-        ("oil_share_any_grade", &mut || outside::oil_share_any_grade(50, 20, &mut 0)),
-        ("work_out", &mut || outside::work_out(TABLES, &CAR, &mut [0; FIGURES])),
-        ("permitted_error", &mut || {
-            outside::permitted_error(TABLES, &CAR, &[0; ERRORS], &mut [0; PERMITTED])
-        }),
-        ("train_empty", &mut || outside::train_empty(&mut [1; TRAIN])),
-        ("train_enter", &mut || {
-            outside::train_enter(&mut [0; TRAIN], TABLES, &CAR, &mut [0; FIGURES])
-        }),
-    ];
-    for (name, operation) in &mut operations {
-        let bytes = stack_of(*operation);
-        println!("{name}: {bytes} bytes of stack");
-        assert!(bytes <= ENOUGH, "{name}");
+    for sheet in [sheets::full_sheet(0), sheets::fullest_sheet(0)] {
+        hold_to(OF_A_SHEET, "answer_sheet", &mut || outside::answer_sheet(&sheet, &mut answer).1);
     }
+    let (mut letter, mut length, mut numbers) = (0, 0, [1; FIELDS]);
+    for line in [&b"K        1\n"[..], b"R        1        1\n"] {
+        hold("read_line", &mut || outside::read_line(line, &mut letter, &mut numbers));
+    }
+    for letter in *b"KC" {
+        hold("write_line", &mut || outside::write_line(letter, &numbers, &mut answer, &mut length));
+    }
+}
+
+#[test]
+fn figures() {
+    let (mut figure, mut wide, mut stick) = (0, 0, [0; STICK]);
+    hold("mean_level", &mut || outside::mean_level(4, &[9, 7, 8, 1], &mut wide));
+    hold("tape_allowance", &mut || outside::tape_allowance(10, &mut figure));
+    hold("stick_against_tape", &mut || {
+        outside::stick_against_tape(90, 20, &[7; TAPE_READINGS], &mut stick)
+    });
+    hold("expansion_of", &mut || outside::expansion_of(9_500, &mut figure));
+    hold("factor_of", &mut || outside::factor_of(9_500, 600, &mut wide));
+    hold("density_at_20", &mut || outside::density_at_20(9_500, &mut figure));
+    hold("density_at_20_of_grade", &mut || outside::density_at_20_of_grade(3, 9_500, &mut figure));
+    hold("density_at_15", &mut || outside::density_at_15(9_300, 500, &mut figure));
+    hold("oil_share", &mut || outside::oil_share(3, 50, 20, &mut figure));
+    hold("oil_share_any_grade", &mut || outside::oil_share_any_grade(50, 20, &mut figure));
+    hold("check_tables", &mut || outside::check_tables(TABLES));
+    hold("checked_volume", &mut || outside::checked_volume(TABLES, 1, 90, 3, &mut figure));
+}
+
+#[test]
+fn cars_and_trains() {
+    let (mut figures, mut permitted) = ([0; FIGURES], [0; PERMITTED]);
+    hold("work_out", &mut || outside::work_out(TABLES, &CAR, &mut figures));
+    hold_to(OF_THE_ERROR, "permitted_error", &mut || {
+        outside::permitted_error(TABLES, &CAR, &[0; ERRORS], &mut permitted)
+    });
+    let mut train = [1; TRAIN];
+    hold("train_empty", &mut || outside::train_empty(&mut train));
+    for held in [0, 59] {
+        train = train_of_cars(held);
+        hold_to(OF_A_TRAIN, "train_enter", &mut || {
+            outside::train_enter(&mut train, TABLES, &CAR, &mut figures)
+        });
+    }
+    for held in [1, 60] {
+        train = train_of_cars(held);
+        hold_to(OF_A_TRAIN, "train_strike", &mut || outside::train_strike(&mut train, held));
+    }
+}
+
+/// A train of so many accepted cars, with the numbers from 1 on.
+fn train_of_cars(held: u32) -> [u32; TRAIN] {
+    let rows = [0, 4, 9].map(|level| Row { level, capacity: level }).to_vec();
+    let tables = [HandedIn { car_type: 1, announced: 3, rows }];
+    let mut train = Train::default();
+    for number in 1..=held {
+        let car = Car { number, ..Car::from(CAR) };
+        operations::enter(&mut train, &tables, &car).expect("an accepted car");
+    }
+    state_of(&train)
 }

@@ -1,15 +1,18 @@
-//! The library's permitted error, laboratory's density, tape allowance and stick against the tape: every
-//! line of the files of vectors.
+//! The library's permitted error, laboratory's density, tape allowance, stick against the tape, and trains
+//! handed in with a strike or a car: every line of the files of vectors.
 
 use outside::slices::Slices;
-use outside::{ERRORS, FIELDS, PERMITTED, STICK};
-use reference::conformance::vectors::{all, laboratory, permitted, read, stick, tape};
+use outside::train::state_of;
+use outside::{ERRORS, FIELDS, FIGURES, PERMITTED, STICK, TRAIN};
+use reference::conformance::vectors::{all, laboratory, permitted, read, stick, tape, train};
+use reference::sheet::Event;
 use reference::stick::StickCheck;
 
 const PERMITTED_ERROR: &str = include_str!("../../conformance/permitted-error.vectors");
 const LABORATORY_DENSITY: &str = include_str!("../../conformance/laboratory-density.vectors");
 const TAPE_ALLOWANCE: &str = include_str!("../../conformance/tape-allowance.vectors");
 const STICK_AGAINST_TAPE: &str = include_str!("../../conformance/stick-against-tape.vectors");
+const TRAIN_STRIKE: &str = include_str!("../../conformance/train-strike.vectors");
 
 /// What a place holds before it is lent: no figure.
 const LENT: u32 = 0xa5a5_a5a5;
@@ -98,6 +101,43 @@ fn expected_check(answer: &str) -> (u32, [u32; STICK + 1]) {
     (0, [sign, size, passes, allowance, LENT])
 }
 
+/// The number handed back, the lent figures with one place behind them, and the train.
+type Entered = (u32, [u32; FIGURES + 1], [u32; TRAIN]);
+
+fn train_strike(vector: &train::Vector) -> Entered {
+    let (mut figures, mut state) = ([LENT; FIGURES + 1], state_of(&vector.train));
+    let number = match vector.asked {
+        Event::Strike(number) => outside::train_strike(&mut state, number),
+        Event::Enter(car) => {
+            let (tables, car) = (Slices::new(&[train::table()]), <[u32; FIELDS]>::from(car));
+            outside::train_enter(&mut state, tables.lent(), &car, &mut figures[..FIGURES])
+        }
+    };
+    (number, figures, state)
+}
+
+/// The same from a line's answer: K, or A and figures, or a refusal; then the train, which as a question
+/// with any strike is read as such.
+fn expected_train(vector: &train::Vector, answer: &str) -> Entered {
+    let (answer, next) = answer.split_once(" | ").expect("an answer and a train");
+    let mut figures = [LENT; FIGURES + 1];
+    let number = match answer.strip_prefix("A ") {
+        Some(seen) => {
+            for (figure, word) in figures.iter_mut().zip(seen.split(' ')) {
+                *figure = word.parse().expect("a figure");
+            }
+            0
+        }
+        None if answer == "K" => 0,
+        None => answer.parse().expect("a refusal"),
+    };
+    let state = match next {
+        "unchanged" => state_of(&vector.train),
+        _ => state_of(&read::<train::Vector>(&format!("next | {next} | K 0 | -"))[0].0.train),
+    };
+    (number, figures, state)
+}
+
 #[test]
 fn every_line_of_the_permitted_error() {
     let vectors = read::<permitted::Vector>(PERMITTED_ERROR);
@@ -131,5 +171,14 @@ fn every_line_of_the_stick_against_the_tape() {
     assert_eq!(vectors.len(), all::<stick::Vector>().len());
     for (vector, answer) in vectors {
         assert_eq!(stick_against_tape(&vector), expected_check(answer), "{}", vector.name);
+    }
+}
+
+#[test]
+fn every_line_of_the_strikes_and_cars_of_a_train() {
+    let vectors = read::<train::Vector>(TRAIN_STRIKE);
+    assert_eq!(vectors.len(), all::<train::Vector>().len());
+    for (vector, answer) in vectors {
+        assert_eq!(train_strike(&vector), expected_train(&vector, answer), "{}", vector.name);
     }
 }

@@ -1,4 +1,5 @@
-//! Times `answer_sheet` on full sheets, one again and again and many in turn, and the generator.
+//! Times `answer_sheet` on full sheets, without strikes and with sixty, one again and again and many in
+//! turn, and the generator.
 
 use std::hint::black_box;
 use std::time::Instant;
@@ -7,10 +8,12 @@ use reference::sheets;
 use reference::{answer_sheet, ANSWER_BYTES};
 
 fn main() {
-    let many: Vec<Vec<u8>> = (0..256).map(sheets::full_sheet).collect();
-    let one = &many[..1];
-    println!("one sheet of {} bytes: {:.1} µs", one[0].len(), shortest(one, 5_000));
-    println!("{} sheets in turn: {:.1} µs each", many.len(), shortest(&many, 50));
+    for full in [sheets::full_sheet, sheets::fullest_sheet] {
+        let many: Vec<Vec<u8>> = (0..256).map(full).collect();
+        let one = &many[..1];
+        println!("one sheet of {} bytes: {:.1} µs", one[0].len(), shortest(one, 5_000));
+        println!("{} sheets in turn: {:.1} µs each", many.len(), shortest(&many, 50));
+    }
 
     let start = Instant::now();
     let bytes: usize = (0..20_000).map(|seed| sheets::sheet(seed).len()).sum();

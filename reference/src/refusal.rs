@@ -1,7 +1,7 @@
 //! Why a sheet or a car is turned away, with the numbers that the listing shows.
 
 /// A refusal, numbered as on the rack card. They are tested by rising number, but 23 directly after
-/// 15.
+/// 15, and 30 directly after 9.
 #[derive(Clone, Copy, Debug, PartialEq, Eq)]
 #[repr(u32)]
 pub enum Refusal {
@@ -21,12 +21,12 @@ pub enum Refusal {
     TableHead = 7,
     /// A row of a table does not start it with zeros, does not rise or passes a limit.
     TableRow = 8,
-    /// Too many cars, a wrong count of cars, bytes after the last line, or a train past its limits
-    /// or with totals that are not the sums of its grades'.
+    /// Too many lines of cars or strikes, a wrong count of cars, bytes after the last line, a train
+    /// that has no place for a car, is past its limits or is not what its held cars make.
     Count = 9,
     /// The car number is out of range.
     CarNumber = 10,
-    /// The car number stands on an earlier line.
+    /// The train holds the car number.
     CarTwice = 11,
     /// No table has the car's type.
     Type = 12,
@@ -62,6 +62,8 @@ pub enum Refusal {
     TapeReadingCount = 28,
     /// A tape reading that is given, or the stick level, is out of its range.
     StickOrTapeLevel = 29,
+    /// The train does not hold the number that is to be struck.
+    NotHeld = 30,
 }
 
 impl Refusal {

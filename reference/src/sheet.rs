@@ -1,14 +1,23 @@
-//! Reading a whole sheet: its tables, its cars, and the refusals 2 to 9.
+//! Reading a whole sheet: its tables, its cars and strikes, and the refusals 2 to 9.
 
 use crate::car::{self, Car};
 use crate::line;
 use crate::refusal::Refusal;
 use crate::table::{Row, Tables, ROWS, TABLES};
-use crate::train::CARS;
 
-/// Bytes of a sheet, at most: four tables of 400 rows, sixty cars and the last line.
-pub const SHEET_BYTES: usize =
-    TABLES * (1 + ROWS) * line::length(2) + CARS * line::length(car::FIELDS) + line::length(1);
+/// C lines of a sheet, at most.
+pub const CAR_LINES: usize = 120;
+/// K lines of a sheet, at most.
+pub const STRIKE_LINES: usize = 60;
+
+/// Bytes of a sheet, at most: four tables of 400 rows, the lines of cars and strikes and the last
+/// line.
+pub const SHEET_BYTES: usize = TABLES * (1 + ROWS) * line::length(2)
+    + CAR_LINES * line::length(car::FIELDS)
+    + STRIKE_LINES * line::length(1)
+    + line::length(1);
+
+const _: () = assert!(SHEET_BYTES == 48_111);
 
 /// A refused sheet: the line at fault, counted from 1, or 0 for the sheet as a whole.
 #[derive(Clone, Copy, Debug, PartialEq, Eq)]
@@ -17,11 +26,21 @@ pub struct Rejection {
     pub refusal: Refusal,
 }
 
+/// What a line behind the tables asks of the train.
+#[derive(Clone, Copy, Debug, PartialEq, Eq)]
+pub enum Event {
+    /// A C line: a car is to be entered.
+    Enter(Car),
+    /// A K line: the car with this number is to be struck.
+    Strike(u32),
+}
+
 /// What stands on a sheet.
 pub struct Sheet {
     pub tables: Tables,
-    cars: [Car; CARS],
-    count: usize,
+    events: Vec<Event>,
+    /// How many of the events are cars.
+    cars: usize,
 }
 
 impl Sheet {
@@ -30,18 +49,23 @@ impl Sheet {
         if bytes.len() > SHEET_BYTES {
             return Err(Rejection { line: 0, refusal: Refusal::SheetLength });
         }
-        let mut sheet = Self { tables: Tables::new(), cars: [Car::default(); CARS], count: 0 };
+        let events = Vec::with_capacity(CAR_LINES + STRIKE_LINES);
+        let mut sheet = Self { tables: Tables::new(), events, cars: 0 };
         let mut lines = Lines { rest: bytes, number: 0 };
         let mut may_come: &[u8] = b"T";
         loop {
             match lines.letter(may_come)? {
                 b'T' => {
                     sheet.read_table(&mut lines)?;
-                    may_come = b"TCE";
+                    may_come = b"TCKE";
                 }
                 b'C' => {
                     sheet.read_car(&mut lines)?;
-                    may_come = b"CE";
+                    may_come = b"CKE";
+                }
+                b'K' => {
+                    sheet.read_strike(&mut lines)?;
+                    may_come = b"CKE";
                 }
                 _ => {
                     sheet.read_end(&mut lines)?;
@@ -51,9 +75,17 @@ impl Sheet {
         }
     }
 
-    /// The cars, in the order of the sheet.
-    pub fn cars(&self) -> &[Car] {
-        &self.cars[..self.count]
+    /// The cars and strikes, in the order of the sheet.
+    pub fn events(&self) -> &[Event] {
+        &self.events
+    }
+
+    /// The cars alone, in the order of the sheet.
+    pub fn cars(&self) -> impl Iterator<Item = &Car> {
+        self.events.iter().filter_map(|event| match event {
+            Event::Enter(car) => Some(car),
+            Event::Strike(_) => None,
+        })
     }
 
     fn read_table(&mut self, lines: &mut Lines) -> Result<(), Rejection> {
@@ -70,15 +102,26 @@ impl Sheet {
 
     fn read_car(&mut self, lines: &mut Lines) -> Result<(), Rejection> {
         let fields: [u32; car::FIELDS] = lines.fields()?;
-        let place = self.cars.get_mut(self.count).ok_or(lines.reject(Refusal::Count))?;
-        *place = Car::from(fields);
-        self.count += 1;
+        if self.cars == CAR_LINES {
+            return Err(lines.reject(Refusal::Count));
+        }
+        self.events.push(Event::Enter(Car::from(fields)));
+        self.cars += 1;
+        Ok(())
+    }
+
+    fn read_strike(&mut self, lines: &mut Lines) -> Result<(), Rejection> {
+        let [number] = lines.fields()?;
+        if self.events.len() - self.cars == STRIKE_LINES {
+            return Err(lines.reject(Refusal::Count));
+        }
+        self.events.push(Event::Strike(number));
         Ok(())
     }
 
     fn read_end(&mut self, lines: &mut Lines) -> Result<(), Rejection> {
         let [cars] = lines.fields()?;
-        if cars as usize != self.count {
+        if cars as usize != self.cars {
             return Err(lines.reject(Refusal::Count));
         }
         if !lines.rest.is_empty() {

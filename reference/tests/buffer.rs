@@ -15,14 +15,15 @@ G        4        0        0        0
 
 #[test]
 fn sizes() {
-    assert_eq!(SHEET_BYTES, 39_771);
-    assert_eq!(ANSWER_BYTES, 3_541);
-    assert_eq!(ANSWER_BYTES, 60 * 56 + 29 + 4 * 38);
+    assert_eq!(SHEET_BYTES, 48_111);
+    assert_eq!(SHEET_BYTES, 4 * 401 * 20 + 120 * 128 + 60 * 11 + 11);
+    assert_eq!(ANSWER_BYTES, 8_101);
+    assert_eq!(ANSWER_BYTES, 120 * 56 + 60 * 20 + 29 + 4 * 38);
 }
 
 #[test]
 fn too_short_a_buffer_is_left_alone() {
-    for length in [0, 1, 20, 29, 181, 3_389, 3_540] {
+    for length in [0, 1, 20, 29, 181, 3_389, 3_541, 7_561, 8_100] {
         for sheet in [NO_CARS, b"", b"hello", &[b' '; SHEET_BYTES + 1]] {
             let mut answer = vec![0xa5; length];
             assert_eq!(answer_sheet(sheet, &mut answer), (0, 1));
@@ -40,7 +41,7 @@ fn bytes_past_the_answer_stay() {
         (b"hello\n", b"Z        1        4\n", 4),
         (&too_long, b"Z        0        2\n", 2),
     ];
-    for room in [3_541, 3_542, 10_000] {
+    for room in [8_101, 8_102, 20_000] {
         for (sheet, listing, handed_back) in cases {
             let mut answer = vec![0xa5; room];
             let (length, number) = answer_sheet(sheet, &mut answer);
@@ -51,14 +52,29 @@ fn bytes_past_the_answer_stay() {
     }
 }
 
+/// All 120 cars are accepted, which only sixty strikes allow. No listing is longer: with a strike less
+/// done, an X line of 20 bytes comes for its K line of 11, and one of 20 for an A line of 56.
 #[test]
-fn the_longest_listing_fills_the_smallest_buffer() {
+fn the_longest_listing_in_the_smallest_buffer() {
+    let mut answer = [0xa5; ANSWER_BYTES];
+    let sheet = sheets::fullest_sheet(1);
+    let length = 120 * 56 + 60 * 11 + 29 + 4 * 38;
+    assert_eq!((sheet.len(), length), (SHEET_BYTES, 7_561));
+    assert_eq!(answer_sheet(&sheet, &mut answer), (length, 0));
+    let (listing, rest) = answer.split_at(length);
+    assert!(rest.iter().all(|&byte| byte == 0xa5));
+    assert_eq!(listing.iter().filter(|&&byte| byte == b'\n').count(), 185);
+    assert!(listing.starts_with(b"A"));
+    assert!(listing[length - 181..].starts_with(b"S       60"));
+    assert!(listing[length - 38..].starts_with(b"G        4"));
+}
+
+#[test]
+fn a_sheet_without_strikes_in_the_smallest_buffer() {
     let mut answer = [0xa5; ANSWER_BYTES];
     let sheet = sheets::full_sheet(1);
-    assert_eq!(sheet.len(), SHEET_BYTES);
-    assert_eq!(answer_sheet(&sheet, &mut answer), (ANSWER_BYTES, 0));
-    assert_eq!(answer.iter().filter(|&&byte| byte == b'\n').count(), 65);
-    assert!(answer.starts_with(b"A"));
-    assert!(answer[ANSWER_BYTES - 181..].starts_with(b"S       60"));
-    assert!(answer[ANSWER_BYTES - 38..].starts_with(b"G        4"));
+    assert_eq!(sheet.len(), 39_771);
+    assert_eq!(answer_sheet(&sheet, &mut answer), (3_541, 0));
+    assert_eq!(answer[..3_541].iter().filter(|&&byte| byte == b'\n').count(), 65);
+    assert!(answer[3_541..].iter().all(|&byte| byte == 0xa5));
 }

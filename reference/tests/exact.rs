@@ -1,7 +1,7 @@
 //! Gross and net masses against the exact value, in whole numbers of any length.
 
 use reference::car::{Car, Figures, FIELDS};
-use reference::sheet::Sheet;
+use reference::sheet::{Event, Sheet};
 use reference::sheets;
 use reference::table::{Row, Tables};
 use reference::train::Train;
@@ -188,15 +188,25 @@ fn exact_totals(cars: &[(&Car, Figures)], sheet: &[u8], powers: u64) -> (Exact, 
 
 #[test]
 fn each_grade_s_totals_stay_near_the_exact_sums() {
-    let mut grades_with_cars = 0;
+    let (mut grades_with_cars, mut strikes) = (0, 0);
     for seed in 0..150 {
-        let bytes = if seed % 50 == 0 { sheets::full_sheet(seed) } else { sheets::sheet(seed) };
+        let bytes = if seed % 50 == 0 { sheets::fullest_sheet(seed) } else { sheets::sheet(seed) };
         let Ok(sheet) = Sheet::read(&bytes) else { continue };
         let mut train = Train::default();
         let mut accepted: [Vec<(&Car, Figures)>; 4] = Default::default();
-        for car in sheet.cars() {
-            if let Ok(figures) = train.enter(car, &sheet.tables) {
-                accepted[car.grade as usize - 1].push((car, figures));
+        for event in sheet.events() {
+            match event {
+                Event::Enter(car) => {
+                    if let Ok(figures) = train.enter(car, &sheet.tables) {
+                        accepted[car.grade as usize - 1].push((car, figures));
+                    }
+                }
+                Event::Strike(number) => {
+                    strikes += u32::from(train.strike(*number).is_ok());
+                    accepted
+                        .iter_mut()
+                        .for_each(|cars| cars.retain(|(car, _)| car.number != *number));
+                }
             }
         }
         for (cars, totals) in accepted.iter().zip(train.grades) {
@@ -210,7 +220,7 @@ fn each_grade_s_totals_stay_near_the_exact_sums() {
             grades_with_cars += u32::from(count > 0);
         }
     }
-    assert!(grades_with_cars > 100);
+    assert!(grades_with_cars > 100 && strikes > 200, "{grades_with_cars}, {strikes} strikes");
 }
 
 /// The rows of a type, read from the text of a sheet.

@@ -5,7 +5,7 @@ use reference::level;
 use reference::refusal::Refusal;
 use reference::table::{Row, Tables};
 use reference::thermal::{self, Density15};
-use reference::train::{Totals, Train};
+use reference::train::{Place, Totals, Train};
 
 fn tables() -> Tables {
     let mut tables = Tables::new();
@@ -28,6 +28,9 @@ const CAR: Car = Car {
     water: 0,
     impurities: 0,
 };
+
+/// The same car held though it was refused.
+const REFUSED: Place = Place { number: 1, grade: 0, gross: 0, net: 0 };
 
 #[test]
 fn tape_allowance_at_every_bound() {
@@ -131,7 +134,7 @@ fn a_car_refused_by_23_leaves_its_number_and_no_mass() {
     let apart = Car { given: 4, readings: [1504, 1500, 1502, 0], ..CAR };
     assert_eq!(train.enter(&apart, &tables), Err(THREE_APART));
     assert_eq!(train.enter(&CAR, &tables), Err(Refusal::CarTwice));
-    assert_eq!((train.numbers(), train.all), (&[1][..], Totals::default()));
+    assert_eq!((train.held, train.places[0], train.all), (1, REFUSED, Totals::default()));
 }
 
 #[test]
@@ -216,12 +219,12 @@ fn refused_cars_leave_their_number_and_no_mass() {
     let tables = tables();
     let mut train = Train::default();
     assert_eq!(train.enter(&Car { number: 0, ..CAR }, &tables), Err(Refusal::CarNumber));
-    assert!(train.numbers().is_empty());
+    assert_eq!(train, Train::default());
     assert_eq!(train.enter(&Car { grade: 9, ..CAR }, &tables), Err(Refusal::GradeOrStick));
     assert_eq!(train.enter(&CAR, &tables), Err(Refusal::CarTwice));
-    assert_eq!(train.numbers(), [1]);
-    assert_eq!(train.all, Totals::default());
-    assert_eq!(train.grades, [Totals::default(); 4]);
+    let mut expected = Train { held: 1, ..Train::default() };
+    expected.places[0] = REFUSED;
+    assert_eq!(train, expected);
 }
 
 #[test]
@@ -239,17 +242,19 @@ fn a_train_of_sixty_numbers_is_full() {
     assert_eq!(train, before);
 }
 
+/// A train of one car that its totals make, within the limits and past them.
 #[test]
-fn a_train_handed_in_past_its_limits_is_full() {
+fn a_train_handed_in_past_its_limits_is_barred() {
     let tables = tables();
-    let handed_in = |accepted, gross, net| {
-        let mut train = Train { all: Totals { accepted, gross, net }, ..Train::default() };
+    let handed_in = |gross: u32, net: u32| {
+        let all = Totals { accepted: 1, gross: gross.into(), net: net.into() };
+        let mut train = Train { all, held: 1, ..Train::default() };
         train.grades[0] = train.all;
+        train.places[0] = Place { number: 9, grade: 1, gross, net };
         train.enter(&CAR, &tables).err()
     };
-    assert_eq!(handed_in(60, 12_000_000, 12_000_000), None);
-    assert_eq!(handed_in(61, 0, 0), Some(Refusal::Count));
-    assert_eq!(handed_in(0, 12_000_001, 0), Some(Refusal::Count));
-    assert_eq!(handed_in(0, 0, 12_000_001), Some(Refusal::Count));
-    assert_eq!(handed_in(u32::MAX, u64::MAX, u64::MAX), Some(Refusal::Count));
+    assert_eq!(handed_in(12_000_000, 12_000_000), None);
+    assert_eq!(handed_in(12_000_001, 0), Some(Refusal::Count));
+    assert_eq!(handed_in(0, 12_000_001), Some(Refusal::Count));
+    assert_eq!(handed_in(u32::MAX, u32::MAX), Some(Refusal::Count));
 }

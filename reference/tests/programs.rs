@@ -6,7 +6,7 @@ use std::path::{Path, PathBuf};
 use std::process::{Command, Stdio};
 
 use reference::conformance;
-use reference::conformance::vectors::{self, laboratory, permitted, stick, tape};
+use reference::conformance::vectors::{self, laboratory, permitted, stick, tape, train};
 use reference::{listing, sheets};
 
 fn rack(sheet: &[u8]) -> Vec<u8> {
@@ -40,8 +40,8 @@ fn the_rack_program_answers_every_conformance_sheet() {
 #[test]
 fn the_rack_program_refuses_endless_input() {
     assert_eq!(rack(&vec![b'T'; 10_000_000]), b"Z        0        2\n");
-    assert_eq!(rack(&vec![b'T'; 39_772]), b"Z        0        2\n");
-    assert_eq!(rack(&vec![b'T'; 39_771]), b"Z        1        3\n");
+    assert_eq!(rack(&vec![b'T'; 48_112]), b"Z        0        2\n");
+    assert_eq!(rack(&vec![b'T'; 48_111]), b"Z        1        3\n");
 }
 
 #[test]
@@ -68,13 +68,14 @@ fn make_conformance_writes_sheets_and_listings() {
     let made = Command::new(env!("CARGO_BIN_EXE_make_conformance")).arg(&folder).status().unwrap();
     assert!(made.success());
     let cases = conformance::cases();
-    // The sheets and listings, the index, the figures on the way and four files of vectors.
-    assert_eq!(fs::read_dir(&folder).unwrap().count(), 2 * cases.len() + 6);
+    // The sheets and listings, the index, the figures on the way and five files of vectors.
+    assert_eq!(fs::read_dir(&folder).unwrap().count(), 2 * cases.len() + 7);
     let written = |name: &str| fs::read_to_string(folder.join(name)).unwrap();
     assert_eq!(written("permitted-error.vectors"), vectors::file::<permitted::Vector>());
     assert_eq!(written("laboratory-density.vectors"), vectors::file::<laboratory::Vector>());
     assert_eq!(written("tape-allowance.vectors"), vectors::file::<tape::Vector>());
     assert_eq!(written("stick-against-tape.vectors"), vectors::file::<stick::Vector>());
+    assert_eq!(written("train-strike.vectors"), vectors::file::<train::Vector>());
     for case in cases {
         assert_eq!(fs::read(folder.join(format!("{}.sheet", case.name))).unwrap(), case.sheet);
         assert_eq!(fs::read(folder.join(format!("{}.listing", case.name))).unwrap(), case.listing);

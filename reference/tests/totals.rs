@@ -4,7 +4,7 @@ use reference::car::Car;
 use reference::operations::{self, HandedIn};
 use reference::refusal::Refusal;
 use reference::table::{Row, Tables};
-use reference::train::{Totals, Train};
+use reference::train::{Place, Totals, Train};
 use reference::{listing, sheets};
 
 /// A car that every grade takes.
@@ -35,13 +35,30 @@ fn totals(accepted: u32, gross: u64, net: u64) -> Totals {
     Totals { accepted, gross, net }
 }
 
-/// A train of ten cars that adds up and holds the number 7.
+fn held(number: u32, grade: u32, gross: u32, net: u32) -> Place {
+    Place { number, grade, gross, net }
+}
+
+/// A train of ten accepted cars, of which one has the number 7, and a refused car.
 fn train() -> Train {
+    let cars = [
+        held(7, 1, 100, 90),
+        held(12, 2, 500, 400),
+        held(13, 2, 1_500, 1_400),
+        held(14, 3, 9_000, 8_000),
+        held(15, 3, 1_000, 900),
+        held(8, 0, 0, 0),
+        held(16, 3, 20_000, 18_100),
+        held(17, 4, 1, 1),
+        held(18, 4, 1, 1),
+        held(19, 4, 1, 1),
+        held(20, 4, 1, 0),
+    ];
     let grades =
         [totals(1, 100, 90), totals(2, 2_000, 1_800), totals(3, 30_000, 27_000), totals(4, 4, 3)];
-    let mut train = Train { all: totals(10, 32_104, 28_893), grades, ..Train::default() };
-    train.numbers[0] = 7;
-    train.held = 1;
+    let all = totals(10, 32_104, 28_893);
+    let mut train = Train { all, grades, held: 11, ..Train::default() };
+    train.places[..11].copy_from_slice(&cars);
     train
 }
 
@@ -67,8 +84,8 @@ fn an_accepted_car_counts_for_all_and_for_its_grade() {
             totals.gross += u64::from(figures.gross);
             totals.net += u64::from(figures.net);
         }
-        expected.numbers[1] = 9;
-        expected.held = 2;
+        expected.places[11] = held(9, grade, figures.gross, figures.net);
+        expected.held = 12;
         assert_eq!(handed_back, expected);
     }
 }
@@ -92,13 +109,23 @@ fn a_refused_car_counts_for_no_grade() {
     }
 }
 
+/// Fifty-nine cars with 12,000,000 kg, all of grade 4 or of all grades in turn.
 #[test]
 fn a_train_that_adds_up_takes_a_car() {
-    let most = totals(60, 12_000_000, 12_000_000);
-    let mut one_grade = Train { all: most, ..Train::default() };
-    one_grade.grades[3] = most;
-    let quarters = [totals(15, 3_000_000, 3_000_000); 4];
-    let four_grades = Train { all: most, grades: quarters, ..Train::default() };
+    let mut one_grade = Train { held: 59, ..Train::default() };
+    let mut four_grades = one_grade.clone();
+    for place in 0..59_u32 {
+        // 58 × 200,000 and 400,000.
+        let mass = if place == 58 { 400_000 } else { 200_000 };
+        let turn = place as usize % 4;
+        one_grade.places[place as usize] = held(100 + place, 4, mass, mass);
+        four_grades.places[place as usize] = held(100 + place, turn as u32 + 1, mass, mass);
+        four_grades.grades[turn].accepted += 1;
+        four_grades.grades[turn].gross += u64::from(mass);
+        four_grades.grades[turn].net += u64::from(mass);
+    }
+    let most = totals(59, 12_000_000, 12_000_000);
+    (one_grade.all, one_grade.grades[3], four_grades.all) = (most, most, most);
     for mut train in [train(), one_grade, four_grades] {
         assert!(train.enter(&CAR, &tables()).is_ok());
     }
@@ -178,31 +205,41 @@ fn sums<'a>(answers: impl Iterator<Item = &'a str>) -> Vec<u64> {
     sums
 }
 
-/// The grades on a sheet's C lines.
-fn grades(sheet: Vec<u8>) -> Vec<u64> {
-    let text = String::from_utf8(sheet).unwrap();
-    text.lines().filter(|line| line.starts_with('C')).map(|car| numbers(car)[2]).collect()
+/// The lines of cars and strikes of a sheet with their answers, but for those answers of accepted cars
+/// that a later strike took out.
+fn held_in_the_end<'a>(lines: &[&'a str], answers: &[&'a str]) -> Vec<(&'a str, &'a str)> {
+    let later_strike = |place: usize| {
+        let number = numbers(lines[place])[0];
+        let mut later = lines[place + 1..].iter().filter(|line| line.starts_with('K'));
+        later.any(|line| numbers(line)[0] == number)
+    };
+    (0..lines.len())
+        .filter(|&place| lines[place].starts_with('C') && !later_strike(place))
+        .map(|place| (lines[place], answers[place]))
+        .collect()
 }
 
 #[test]
 fn the_lines_of_the_grades_add_up() {
-    let mut all_four = 0;
+    let (mut all_four, mut with_strikes) = (0, 0);
     for seed in 0..4_000 {
         let sheet = sheets::sheet(seed);
         let listing = String::from_utf8(listing::of(&sheet)).unwrap();
-        let lines: Vec<&str> = listing.lines().collect();
+        let answers: Vec<&str> = listing.lines().collect();
         if listing.starts_with('Z') {
-            assert_eq!(lines.len(), 1);
+            assert_eq!(answers.len(), 1);
             continue;
         }
-        let (cars, totals) = lines.split_at(lines.len() - 5);
-        let grades = grades(sheet);
-        assert_eq!(cars.len(), grades.len());
+        let text = String::from_utf8(sheet).unwrap();
+        let lines: Vec<&str> = text.lines().filter(|line| line.starts_with(['C', 'K'])).collect();
+        let (answers, totals) = answers.split_at(answers.len() - 5);
+        assert_eq!(answers.len(), lines.len());
+        let held = held_in_the_end(&lines, answers);
         assert!(totals[0].starts_with('S'));
-        assert_eq!(numbers(totals[0]), sums(cars.iter().copied()));
+        assert_eq!(numbers(totals[0]), sums(held.iter().map(|(_, answer)| *answer)));
         for (grade, line) in (1..).zip(&totals[1..]) {
-            let of_grade = cars.iter().zip(&grades).filter(|(_, other)| **other == grade);
-            let expected = [vec![grade], sums(of_grade.map(|(answer, _)| *answer))].concat();
+            let of_grade = held.iter().filter(|(car, _)| numbers(car)[2] == grade);
+            let expected = [vec![grade], sums(of_grade.map(|(_, answer)| *answer))].concat();
             assert!(line.starts_with('G') && line.len() == 37);
             assert_eq!(numbers(line), expected);
         }
@@ -210,6 +247,8 @@ fn the_lines_of_the_grades_add_up() {
         let added = [1, 2, 3].map(|part| of_grades.iter().map(|grade| grade[part]).sum::<u64>());
         assert_eq!(numbers(totals[0]), added);
         all_four += u32::from(of_grades.iter().all(|grade| grade[1] > 0));
+        with_strikes += u32::from(answers.iter().any(|answer| answer.starts_with('K')));
     }
     assert!(all_four > 600, "{all_four} sheets have accepted cars of all grades");
+    assert!(with_strikes > 300, "{with_strikes} sheets have strikes that were done");
 }

@@ -5,8 +5,9 @@ use std::collections::HashSet;
 use std::fmt::Debug;
 
 use reference::conformance::vectors::{
-    all, expected, file, laboratory, permitted, read, stick, tape, Written,
+    all, expected, file, laboratory, permitted, read, stick, tape, train, Written,
 };
+use reference::sheet::Event;
 
 /// What holds of every file: the answers, the names, and that it is read as it was written.
 fn hold<V: Written + Debug + PartialEq>(least: usize) {
@@ -38,6 +39,7 @@ fn files() {
     hold::<laboratory::Vector>(200);
     hold::<tape::Vector>(120);
     hold::<stick::Vector>(500);
+    hold::<train::Vector>(400);
 }
 
 #[test]
@@ -80,6 +82,20 @@ fn names_tell_the_outcome_of_a_check() {
         assert!(!name.contains("-above-with-") || check.difference > 0, "{name}");
         assert!(!name.contains("-below-with-") || check.difference < 0, "{name}");
         assert!(!name.starts_with("none-") || check.difference == 0, "{name}");
+    }
+}
+
+#[test]
+fn names_tell_the_outcome_of_a_train() {
+    for vector in all::<train::Vector>() {
+        let name = &vector.name;
+        let (answer, handed_back) = vector.work_out();
+        let number = answer.err().map(|refusal| refusal.number());
+        assert!(name.starts_with("parting-") || number == named_refusal(name), "{name}");
+        let stays = matches!(number, Some(9 | 10 | 11 | 30));
+        assert_eq!(handed_back == vector.train, stays, "{name}");
+        assert!(!name.starts_with("strike-") || matches!(vector.asked, Event::Strike(_)), "{name}");
+        assert!(!name.starts_with("car-") || matches!(vector.asked, Event::Enter(_)), "{name}");
     }
 }
 

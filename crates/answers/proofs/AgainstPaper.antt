@@ -12,12 +12,13 @@ use Rattle.kilograms.specs.Steps as steps
 use Rattle.car.specs.Measured.{measuredTests, v0, mass, sixFigures}
 use Rattle.car.specs.Car.{carTests}
 use Rattle.base.specs.Total.{total}
-use Rattle.consist.specs.Train.{unsound, full, admissionTests, enterTests, enterAnswer, enterTrain}
-use Rattle.grammar.specs.Sheet.{tableLine, rowLine, carLine, endLine, stepOf, lines, sheetOf}
+use Rattle.summing.specs.Sums.{totalsOf, sumsOf}
+use Rattle.consist.specs.Train.{unsound, full, admissionTests, enterTests, enterAnswer, enterTrain, strikeTests, strikeAnswer, strikeTrain}
+use Rattle.grammar.specs.Sheet.{tableLine, rowLine, carLine, strikeLine, endLine, stepOf, lines, sheetOf}
 use Rattle.grammar.specs.Text.{textOf}
 use Rattle.answers.specs.Listing.{replyOf}
-use Rattle.answers.specs.Paper.{paperSheet, paperListing, smallSheet, PaperExample}
+use Rattle.answers.specs.Paper.{paperSheet, paperListing, strikesSheet, strikesListing, smallSheet, PaperExample}
 
 pub paper-example : PaperExample
-unfolding paperSheet paperListing smallSheet textOf replyOf rounded seenTo fieldAt justified fieldOf letterOf feed feedAt good values lineBy lineAt fieldsOf lineOf meanLevel interpolated capacityAt capacity.v0 thermal.expansion thermal.exponent thermal.term thermal.series thermal.factor thermal.densityAt steps.stickCoefficient steps.hotVolume steps.coldVolume steps.gross steps.net steps.volume15Of steps.grossOf steps.netOf measuredTests v0 mass sixFigures carTests total unsound full admissionTests enterTests enterAnswer enterTrain tableLine rowLine carLine endLine stepOf lines sheetOf
-paper-example = record { listing = refl; no-cars = refl; refused = refl; reply = refl; refused-reply = refl; short = refl }
+unfolding paperSheet paperListing strikesSheet strikesListing smallSheet textOf replyOf rounded seenTo fieldAt justified fieldOf letterOf feed feedAt good values lineBy lineAt fieldsOf lineOf meanLevel interpolated capacityAt capacity.v0 thermal.expansion thermal.exponent thermal.term thermal.series thermal.factor thermal.densityAt steps.stickCoefficient steps.hotVolume steps.coldVolume steps.gross steps.net steps.volume15Of steps.grossOf steps.netOf measuredTests v0 mass sixFigures carTests total totalsOf sumsOf unsound full admissionTests enterTests enterAnswer enterTrain strikeTests strikeAnswer strikeTrain tableLine rowLine carLine strikeLine endLine stepOf lines sheetOf
+paper-example = record { listing = refl; strikes = refl; no-cars = refl; refused = refl; reply = refl; refused-reply = refl; longest-sheet = refl; least-buffer = refl; short = refl }

@@ -1,4 +1,4 @@
--- Every number of every line of an answer fits its field, and the line of a car has at most the bytes of an A line.
+-- Every number of every line of an answer fits its field; the line of a car has at most the bytes of an A line, that of a strike those of an X line.
 use Prim.Native.Nat.{ℕ, _+_, _*_, _≤_}
 use mathlib.Core.Path.{_≡_, refl}
 use mathlib.Core.Bool.{true}
@@ -10,7 +10,7 @@ use Rattle.base.specs.Limits.{largest, gradeCount}
 use Rattle.base.specs.Answer.{lastRefusal, Verdict, accepts, refuses, first, figures, refusal, answer}
 use Rattle.base.proofs.Answer.{numbered, numbered-append, number-most, accepted-parts}
 use Rattle.base.specs.Lists.{Each}
-use Rattle.reading.specs.declared.letter.Letter.the-variants.{CarAccepted, Totals as S, GradeTotals as G}
+use Rattle.reading.specs.declared.letter.Letter.the-variants.{CarAccepted, CarRefused, Totals as S, GradeTotals as G}
 use Rattle.reading.specs.declared.letter.Line.{Line}
 use Rattle.reading.specs.Letter.{widthOf}
 use Rattle.line.specs.Writing.{lineOf, smallTo}
@@ -29,11 +29,11 @@ use Rattle.car.proofs.Accepted.{Passed, passed-car, known, low, fields, shows}
 use Rattle.car.proofs.Masses.{mass-most}
 use Rattle.summing.specs.declared.Totals.{Totals}
 use Rattle.summing.specs.declared.Sums.{Sums}
-use Rattle.consist.specs.Train.{Train, trainTests, admissionTests, enterTests, enterAnswer}
+use Rattle.consist.specs.Train.{Train, trainTests, admissionTests, enterTests, enterAnswer, strikeTests, strikeAnswer}
 use Rattle.summing.specs.Inner.{Low, Sound}
 use Rattle.summing.proofs.Adding.{grades-low}
 use Rattle.grammar.specs.Text.{textOf}
-use Rattle.answers.specs.Listing.{answerLine, totalsLine, gradeLine, gradeLines, totalsLines, sheetRefusedLine}
+use Rattle.answers.specs.Listing.{answerLine, struckLine, totalsLine, gradeLine, gradeLines, totalsLines, sheetRefusedLine}
 use Rattle.answers.specs.Reconciled.{Small}
 
 -- each test of a car entered in a train has the number of a refusal
@@ -85,6 +85,20 @@ car-fit ts t c good h = by-verdict (first (enterTests ts t c)) refl
     by-verdict : (v : Verdict) → first (enterTests ts t c) ≡ v → Fit (answerLine (c .number) (answer v (figuresOf ts c)))
     by-verdict (refuses n) e = x-fit (c .number) n h (number-most (enterTests ts t c) (enter-numbered ts t c) e)
     by-verdict accepts e = six-fit ts (c .number) (measured c) h (passed-car c good (accepted-parts (carTests ts c) (admissionTests ts t c) e .1))
+
+-- the line of a strike
+strike-numbered : (t : Train) (n : ℕ) → numbered (strikeTests t n) ≡ true
+unfolding strikeTests
+strike-numbered t n = refl
+
+pub strike-fit : (t : Train) (n : ℕ) → n ≤ largest → Fit (struckLine n (strikeAnswer t n)) × (widthOf (struckLine n (strikeAnswer t n) .letter) ≤ widthOf CarRefused)
+unfolding strikeAnswer smallTo
+strike-fit t n h = by-verdict (first (strikeTests t n)) refl
+  where
+    by-verdict : (v : Verdict) → first (strikeTests t n) ≡ v
+        → Fit (struckLine n (answer v (n ∷ []))) × (widthOf (struckLine n (answer v (n ∷ [])) .letter) ≤ widthOf CarRefused)
+    by-verdict (refuses k) e = (x-fit n k h (number-most (strikeTests t n) (strike-numbered t n) e), omega arith)
+    by-verdict accepts e = (record { fourteen = refl; small = simp (le-leb n largest h); width = omega arith }, omega arith)
 
 -- S, G and Z
 pub totals-fit : {t : Totals} → Low t → Fit (totalsLine t)

@@ -20,7 +20,7 @@ use Rattle.summing.specs.declared.Totals.{Totals}
 use Rattle.summing.specs.declared.Sums.{Sums}
 use Rattle.summing.specs.Sums.{Shown, ofGrade, totalsOf, sumsOf, gradeTotals, together}
 use Rattle.consist.specs.Train.{Train, emptyTrain, enterAnswer}
-use Rattle.consist.specs.Book.{Item, car, loadsOfGrade}
+use Rattle.consist.specs.Book.{Item, car, strike, loadsOfGrade}
 use Rattle.consist.specs.Demand3.{answerTo, trainWith, trainFrom, answersFrom, Close, Answered, entered, InOrder}
 use Rattle.consist.specs.Inner.{Reached}
 use Rattle.consist.proofs.Taken.{close}
@@ -67,12 +67,13 @@ each-answered : (P : List Table → Measured → Answer → Type 0) → ((ts : L
     → (t : Train) (items : List Item) → EachAnswered P items (answersFrom t items)
 each-answered P law t [] = tt
 each-answered P law t (car ts c ∷ items) = (law ts (measured c) (enterAnswer ts t c) (entered t c), each-answered P law (trainWith t (car ts c)) items)
+each-answered P law t (strike n ∷ items) = each-answered P law (trainWith t (strike n)) items
 
 each-small : (ls : List Line) → Each Fit ls → Each Small ls
 each-small [] h = tt
 each-small (l ∷ ls) (h, hs) = (h .small, each-small ls hs)
 
--- S and the G lines of the train after a list of cars
+-- S and the G lines of the train after a list of cars and strikes
 module _ (items : List Item) where
   abbrev after : Sums
   after = trainFrom emptyTrain items .sums
@@ -124,7 +125,7 @@ sheet-reconciled bytes (whole ts history) p =
 pub text-fits : (bytes : ℕ) (r : SheetRead) → Proper bytes r → length (textOf (answerLines r)) ≤ leastBuffer
 unfolding textOf
 text-fits bytes (refusedAt line number) p = rw append-nil (omega (arith, length-lineOf (sheetRefusedLine line number) refl))
-text-fits bytes (whole ts history) p = omega (arith, text-most ts (p .accepted) emptyTrain reached-first history (p .each), p .sixty)
+text-fits bytes (whole ts history) p = omega (arith, text-most ts (p .accepted) emptyTrain reached-first history (p .each), p .few-cars, p .few-strikes)
 
 -- The three answers of `answer_sheet`.
 

@@ -4,10 +4,10 @@ use mathlib.Core.Bool.{cond}
 use mathlib.Core.List.{List, [], _∷_, map}
 use lib.ListN.{length}
 use lib.Dec.{ltb}
-use Rattle.base.specs.Limits.{mostCarLines, gradeCount}
+use Rattle.base.specs.Limits.{mostCarLines, mostStrikes, gradeCount}
 use Rattle.base.specs.Answer.{Answer, figures, refusal}
 use Rattle.base.specs.Buffer.{put}
-use Rattle.reading.specs.declared.letter.Letter.the-variants.{CarAccepted, CarRefused, Totals as S, GradeTotals as G, SheetRefused}
+use Rattle.reading.specs.declared.letter.Letter.the-variants.{Strike as K, CarAccepted, CarRefused, Totals as S, GradeTotals as G, SheetRefused}
 use Rattle.reading.specs.declared.letter.Line.{Line}
 use Rattle.reading.specs.Letter.{widthOf}
 use Rattle.table.specs.Table.{Table}
@@ -15,18 +15,19 @@ use Rattle.car.specs.Car.{carOf}
 use Rattle.summing.specs.declared.Totals.{Totals}
 use Rattle.summing.specs.declared.Sums.{Sums}
 use Rattle.consist.specs.Train.{Train, emptyTrain}
-use Rattle.consist.specs.Book.{Item, car}
+use Rattle.consist.specs.Book.{Item, car, strike}
 use Rattle.consist.specs.Demand3.{answerTo, trainWith}
-use Rattle.grammar.specs.Grammar.{TrainLine, enters}
+use Rattle.grammar.specs.Grammar.{TrainLine, enters, strikes}
 use Rattle.grammar.specs.Text.{lineWith, textOf}
 use Rattle.grammar.specs.Sheet.{SheetRead, refusedAt, whole, sheetOf}
 use Rattle.answers.specs.declared.Reply.{Reply}
 
 -- The lines behind a sheet's tables.
 
--- a C line is a car on the sheet's tables
+-- a C line is a car on the sheet's tables, a K line a strike
 abbrev pub itemOf : List Table → TrainLine → Item
 itemOf ts (enters numbers) = car ts (carOf numbers)
+itemOf ts (strikes number) = strike number
 
 abbrev pub itemsOf : List Table → List TrainLine → List Item
 itemsOf ts history = map (itemOf ts) history
@@ -38,9 +39,15 @@ abbrev pub answerLine : ℕ → Answer → Line
 answerLine number (figures values) = lineWith CarAccepted values
 answerLine number (refusal n) = lineWith CarRefused (number ∷ n ∷ [])
 
+-- K with the number, or X with it and the refusal number
+abbrev pub struckLine : ℕ → Answer → Line
+struckLine number (figures values) = lineWith K values
+struckLine number (refusal n) = lineWith CarRefused (number ∷ n ∷ [])
+
 -- the line of an item that got this answer
 abbrev pub itemLine : Item → Answer → Line
 itemLine (car ts c) a = answerLine (c .number) a
+itemLine (strike number) a = struckLine number a
 
 -- S: accepted cars, gross total, net total
 abbrev pub totalsLine : Totals → Line
@@ -78,9 +85,9 @@ abbrev pub sheetNumber : SheetRead → ℕ
 sheetNumber (refusedAt line number) = number
 sheetNumber (whole ts history) = 0
 
--- the longest answer, in bytes, and so the least buffer
+-- the longest answer, in bytes, and so the least buffer: 8,101
 abbrev pub leastBuffer : ℕ
-leastBuffer = mostCarLines * widthOf CarAccepted + widthOf S + gradeCount * widthOf G
+leastBuffer = mostCarLines * widthOf CarAccepted + mostStrikes * widthOf CarRefused + widthOf S + gradeCount * widthOf G
 
 -- 1: the answer buffer is shorter; the length is 0 and the number 1 is handed back
 unfoldable pub replyOf : List ℕ → ℕ → Reply

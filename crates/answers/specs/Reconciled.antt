@@ -1,4 +1,5 @@
--- The listing beside demand 3: a whole sheet's C lines are such a list of cars on its tables, so that S and the G lines show the book's counts and totals.
+-- The listing beside demand 3: the C and K lines of a whole sheet are such a list of cars on its tables and strikes, so that S and the G lines show the book's
+-- counts and totals.
 use Prim.Native.Nat.{ℕ, _+_, _<_}
 use mathlib.Core.Path.{_≡_}
 use mathlib.Core.Bool.{true}
@@ -17,7 +18,7 @@ use Rattle.car.specs.Measured.{gross, net}
 use Rattle.car.specs.Car.{measured}
 use Rattle.summing.specs.Sums.{Shown, shownMass, ofGrade}
 use Rattle.consist.specs.Train.{emptyTrain}
-use Rattle.consist.specs.Book.{Item, car, Load, loads, loadsOfGrade, bookFrom}
+use Rattle.consist.specs.Book.{Item, car, strike, Load, loads, loadsOfGrade, bookFrom}
 use Rattle.consist.specs.Demand3.{Close, answersFrom, shown, Reconciled, InOrder}
 use Rattle.grammar.specs.Sheet.{SheetRead, refusedAt, whole}
 use Rattle.grammar.specs.Text.{lineWith}
@@ -33,11 +34,12 @@ linesWith [] answers = []
 linesWith (i ∷ is) [] = []
 linesWith (i ∷ is) (a ∷ answers) = itemLine i a ∷ linesWith is answers
 
--- what holds of each item, its tables and what is measured of it, with the answer it got
+-- what holds of each car, its tables and what is measured of it, with the answer it got
 abbrev pub EachAnswered : (List Table → Measured → Answer → Type 0) → List Item → List Answer → Type 0
 EachAnswered P [] answers = Unit {0}
 EachAnswered P (i ∷ is) [] = ⊥
 EachAnswered P (car ts c ∷ is) (a ∷ answers) = P ts (measured c) a × EachAnswered P is answers
+EachAnswered P (strike number ∷ is) (a ∷ answers) = EachAnswered P is answers
 
 -- The numbers of S and of a G line: how many entries with masses, and the sums of the masses shown, of all cars or of one grade.
 
@@ -63,15 +65,15 @@ gradesShown items = gradeShown items 1 ∷ gradeShown items 2 ∷ gradeShown ite
 pub record SumOf (s : Line) (gs : List Line) : Type 0 where
   pub field : (i : ℕ) → i < countOf S → getD (s .numbers) i 0 ≡ total (λ g. getD (g .numbers) (i + 1) 0) gs
 
--- a whole sheet: its tables are not refused, and its cars are answered as demand 3 has it
+-- a whole sheet: its tables are not refused, and its cars and strikes are answered as demand 3 has it
 pub record Listed (ts : List Table) (items : List Item) : Type 0 where
   pub tables : tablesVerdict ts ≡ accepts
   pub reconciled : Reconciled items
-  -- the lines written: each car's answer, then S and the four G lines with the number of the book's entries with masses and the sums of the masses shown
+  -- the lines written: the answer to each car and strike, then S and the four G lines with the number of the book's entries with masses and the sums of the masses shown
   pub lines : linesFrom emptyTrain items ≡ linesWith items (answersFrom emptyTrain items) ++ (totalsShown items ∷ gradesShown items)
   -- the S figures are the sums of the G lines
   pub split : SumOf (totalsShown items) (gradesShown items)
-  -- each of these answers keeps its distance and the filling order
+  -- each car's answer keeps its distance and the filling order
   pub close : EachAnswered Close items (answersFrom emptyTrain items)
   pub order : EachAnswered InOrder items (answersFrom emptyTrain items)
 

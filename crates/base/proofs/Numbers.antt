@@ -40,7 +40,7 @@ difference-sum a b =
 
 -- `any` over one element more
 
-any-snoc : (test : ℕ → Bool) (l : List ℕ) (y : ℕ) → any test (l ++ (y ∷ [])) ≡ (any test l || test y)
+pub any-snoc : (test : ℕ → Bool) (l : List ℕ) (y : ℕ) → any test (l ++ (y ∷ [])) ≡ (any test l || test y)
 any-snoc test [] y = or-false (test y)
 any-snoc test (z ∷ l) y = ap (λ (t : Bool). test z || t) (any-snoc test l y) ∙ sym (or-assoc (test z) (any test l) (test y))
 

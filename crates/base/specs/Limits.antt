@@ -5,7 +5,7 @@ use Prim.Native.Nat.{ℕ, _*_}
 abbrev pub largest : ℕ
 largest = 99_999_999
 
--- the most tables of a sheet, the most rows of a table, the most C lines of a sheet, and the most numbers that a train holds
+-- the most tables of a sheet, the most rows of a table, the most C lines and the most K lines of a sheet, and the most numbers that a train holds
 abbrev pub mostTables : ℕ
 mostTables = 4
 
@@ -13,7 +13,10 @@ abbrev pub mostRows : ℕ
 mostRows = 400
 
 abbrev pub mostCarLines : ℕ
-mostCarLines = 60
+mostCarLines = 120
+
+abbrev pub mostStrikes : ℕ
+mostStrikes = 60
 
 abbrev pub mostCars : ℕ
 mostCars = 60

@@ -15,6 +15,7 @@ pub use limits::LARGEST;
 pub use limits::MOST_CAR_LINES;
 pub use limits::MOST_CARS;
 pub use limits::MOST_ROWS;
+pub use limits::MOST_STRIKES;
 pub use limits::MOST_TABLES;
 pub use limits::TENTHS;
 

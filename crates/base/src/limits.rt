@@ -3,12 +3,14 @@
 // The largest number of a field, and so of a car.
 pub const LARGEST: u32 = 99_999_999;
 
-// The most tables of a sheet, rows of a table and C lines of a sheet, and the most numbers that a train holds.
+// The most tables of a sheet, rows of a table, C lines and K lines of a sheet, and the most numbers that a train holds.
 pub const MOST_TABLES: usize = 4;
 
 pub const MOST_ROWS: usize = 400;
 
-pub const MOST_CAR_LINES: usize = 60;
+pub const MOST_CAR_LINES: usize = 120;
+
+pub const MOST_STRIKES: usize = 60;
 
 pub const MOST_CARS: usize = 60;
 

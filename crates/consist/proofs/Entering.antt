@@ -4,7 +4,6 @@ use mathlib.Core.Path.{_≡_, refl, ap, ap₂, sym, _∙_}
 use mathlib.Core.Bool.{true, false, not, _||_}
 use mathlib.Core.List.{List}
 use lib.Dec.{ltb}
-use lib.ListN.{length}
 use borrow.Author.Tests.{le-ltb, leb-false, ltb-false, not-false}
 use Rattle.base.specs.Limits.{mostCars, gradeCount}
 use Rattle.base.specs.Answer.{Verdict, accepts, refuses, first, firstNumber, refusal, answer}
@@ -18,38 +17,60 @@ use Rattle.car.specs.declared.CarAnswer.the-variants.{Accepted, Refused}
 use Rattle.car.specs.Measured.{gross, net, mass, sixFigures}
 use Rattle.car.specs.Car.{measured, carTests, figuresOf, ownAnswer, carTold}
 use Rattle.car.proofs.Accepted.{passed-car, grade-known}
-use Rattle.summing.specs.Sums.{mostInTrain, together, sameTotals, withCar}
-use Rattle.consist.specs.Train.{Train, unsound, full, trainTests, admissionTests, enterTests, enterAnswer, withMasses, carShown, afterBy, enterTrain}
-use Rattle.summing.specs.Inner.{Sound, Graded, shownAs}
-use Rattle.consist.specs.Inner.{placeTests, withAnswer}
-use Rattle.summing.proofs.Adding.{same-totals, totals-same, length-changed}
+use Rattle.summing.specs.Sums.{sumsOf, mostInTrain, together, sameTotals, sameSums}
+use Rattle.consist.specs.Train.{Train, heldBy, carsOf, shownIn, twice, unsound, full, trainTests, admissionTests, enterTests, enterAnswer, withMasses, afterBy, enterTrain}
+use Rattle.summing.specs.Inner.{Graded, shownAs}
+use Rattle.consist.specs.Inner.{SoundTrain, placeTests, withAnswer}
+use Rattle.summing.proofs.Adding.{same-totals, totals-same, same-sums, sums-same}
 
--- A train is sound where 9 does not apply for its limits or sums.
+-- A train is sound where 9 does not apply but for the numbers that it holds.
 
-pub sound-not : (t : Train) → Sound (t .sums) → unsound t ≡ false
+pub sound-not : (t : Train) → SoundTrain t → unsound t ≡ false
 unfolding unsound
 sound-not t h =
-    simp
-    (le-ltb mostCars (t .sums .all .accepted) (h .low .few), le-ltb mostInTrain (t .sums .all .gross) (h .low .gross-low), le-ltb mostInTrain (t .sums .all .net) (h .low .net-low), totals-same (h .split))
+    let all = t .sums .all in
+    simp (
+      le-ltb mostCars (t .held) (h .place),
+      h .once,
+      le-ltb mostCars (all .accepted) (h .sums .low .few),
+      le-ltb mostInTrain (all .gross) (h .sums .low .gross-low),
+      le-ltb mostInTrain (all .net) (h .sums .low .net-low),
+      sums-same (h .made),
+      totals-same (h .sums .split),
+    )
 
-pub not-sound : (t : Train) → unsound t ≡ false → Sound (t .sums)
+pub not-sound : (t : Train) → unsound t ≡ false → SoundTrain t
 unfolding unsound
 not-sound t e =
     let all = t .sums .all in
-    let p = neither (ltb mostCars (all .accepted) || ltb mostInTrain (all .gross) || ltb mostInTrain (all .net)) (not (sameTotals all (together (t .sums .grades)))) e in
-    let q = neither (ltb mostCars (all .accepted) || ltb mostInTrain (all .gross)) (ltb mostInTrain (all .net)) (p .0) in
-    let r = neither (ltb mostCars (all .accepted)) (ltb mostInTrain (all .gross)) (q .0) in
+    let cars = sumsOf (shownIn (carsOf t)) in
+    let a = ltb mostCars (t .held) in
+    let b = a || twice (heldBy t) in
+    let c = b || ltb mostCars (all .accepted) in
+    let d = c || ltb mostInTrain (all .gross) in
+    let f = d || ltb mostInTrain (all .net) in
+    let p = neither (f || not (sameSums (t .sums) cars)) (not (sameTotals all (together (t .sums .grades)))) e in
+    let q = neither f (not (sameSums (t .sums) cars)) (p .0) in
+    let r = neither d (ltb mostInTrain (all .net)) (q .0) in
+    let u = neither c (ltb mostInTrain (all .gross)) (r .0) in
+    let v = neither b (ltb mostCars (all .accepted)) (u .0) in
+    let w = neither a (twice (heldBy t)) (v .0) in
     record {
-      low = record {
-        few = ltb-false mostCars (all .accepted) (r .0);
-        gross-low = ltb-false mostInTrain (all .gross) (r .1);
-        net-low = ltb-false mostInTrain (all .net) (q .1);
+      place = ltb-false mostCars (t .held) (w .0);
+      once = w .1;
+      sums = record {
+        low = record {
+          few = ltb-false mostCars (all .accepted) (v .1);
+          gross-low = ltb-false mostInTrain (all .gross) (u .1);
+          net-low = ltb-false mostInTrain (all .net) (r .1);
+        };
+        split = same-totals (not-false (sameTotals all (together (t .sums .grades))) (p .1));
       };
-      split = same-totals (not-false (sameTotals all (together (t .sums .grades))) (p .1));
+      made = same-sums (not-false (sameSums (t .sums) cars) (q .1));
     }
 
 -- then 9 is for the numbers that it holds
-place-tests : (t : Train) (number : ℕ) → Sound (t .sums) → trainTests t number ≡ placeTests (t .held) (t .numbers) number
+place-tests : (t : Train) (number : ℕ) → SoundTrain t → trainTests t number ≡ placeTests (t .held) (t .numbers) number
 unfolding full
 place-tests t number h = simp (sound-not t h)
 
@@ -71,7 +92,7 @@ module _ (ts : List Table) (t : Train) (c : Car) where
     unfolding admissionTests
     by-train = accepted-append (trainTests t (c .number)) (tablesTests ts) good
 
-    -- turned away by 9, for its limits or sums
+    -- turned away by 9, but for its numbers
     pub unsound-away : unsound t ≡ true → (refusal 9 ≡ enterAnswer ts t c) × (t ≡ enterTrain ts t c)
     unfolding full
     unsound-away e = admission-refused (by-train ∙ simp e)
@@ -81,7 +102,7 @@ module _ (ts : List Table) (t : Train) (c : Car) where
     away e n = admission-refused (by-train ∙ by-number (first (trainTests t (c .number))) e n)
 
   -- on such tables, in a sound train
-  module _ (good : tablesVerdict ts ≡ accepts) (sound : Sound (t .sums)) where
+  module _ (good : tablesVerdict ts ≡ accepts) (sound : SoundTrain t) where
     pub place-away : {k : ℕ} → k ≡ firstNumber (placeTests (t .held) (t .numbers) (c .number)) → (k ≡ 0 → ⊥) → (refusal k ≡ enterAnswer ts t c) × (t ≡ enterTrain ts t c)
     place-away e n = away good (e ∙ sym (ap firstNumber (place-tests t (c .number) sound))) n
 
@@ -114,13 +135,3 @@ unfolding ownAnswer
 graded ts c (Refused n) good e = tt
 graded ts c (Accepted f) good e =
     inside 1 gradeCount (c .grade) (grade-known ts (measured c) (passed-car c good (answer-figures (first (carTests ts c)) e .0) .early))
-
--- a car entered leaves the grades four
-pub entered-four : (ts : List Table) (t : Train) (c : Car) → length (t .sums .grades) ≡ gradeCount → length (enterTrain ts t c .sums .grades) ≡ gradeCount
-unfolding enterTrain
-entered-four ts t c e = by-verdicts (first (admissionTests ts t c)) (first (carTests ts c))
-  where
-    by-verdicts : (admission own : Verdict) → length (afterBy admission own ts t c .sums .grades) ≡ gradeCount
-    by-verdicts (refuses k) own = e
-    by-verdicts accepts (refuses k) = e
-    by-verdicts accepts accepts = length-changed (withCar (carShown ts c)) (c .grade) 1 (t .sums .grades) ∙ e

@@ -1,5 +1,13 @@
 pub mod AgainstExamples
 pub mod Taken
 pub mod Order
+pub mod Places
+pub mod Cars
+pub mod Lent
+pub mod Rows
 pub mod Entering
+pub mod Loads
+pub mod Kept
+pub mod History
 pub mod Book
+pub mod Striking

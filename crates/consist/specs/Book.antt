@@ -1,5 +1,6 @@
 -- The book of a train: a row of entries, fed what is handed in only; nothing of it is taken from answers or from the train.
 use Prim.Native.Nat.{ℕ}
+use mathlib.Core.Bool.{not}
 use mathlib.Core.List.{List, [], _∷_, _++_, map}
 use lib.Dec.{leb, eqb}
 use lib.ListN.{length}
@@ -16,15 +17,10 @@ use Rattle.car.specs.Measured.{Mass, gross, net}
 use Rattle.car.specs.Car.{numberTests, measured, carTests}
 use Rattle.car.specs.Exact.{massˣ}
 
--- what is handed in, one after another: a car with whatever tables
+-- what is handed in, one after another: a car with whatever tables, or the number of a car that is struck
 pub data Item : Type 0 where
   car : List Table → Car → Item
-
-abbrev pub itemNumber : Item → ℕ
-itemNumber (car ts c) = c .number
-
-abbrev pub itemMeasured : Item → Measured
-itemMeasured (car ts c) = measured c
+  strike : ℕ → Item
 
 -- an accepted car, by its number and what is measured of it, with its exact gross and net in kg, the series taken to either power
 pub record Load : Type 0 where
@@ -57,30 +53,37 @@ abbrev pub loadsOfGrade : ℕ → List Load → List Load
 loadsOfGrade g ls = selected (λ l. eqb (l .measured .grade) g) ls
 
 -- 7 and 8 of its tables, 9 at sixty entries, 10, and 11 where an entry has its number: no entry
-unfoldable pub bookAdmission : List Entry → Item → List Test
-bookAdmission b (car ts c) =
+unfoldable pub bookAdmission : List Entry → List Table → Car → List Test
+bookAdmission b ts c =
     tablesTests ts
     ++ (refuseIf 9 (leb mostCars (length b)) ∷ (numberTests (c .number) ++ (refuseIf 11 (member (c .number) (map numberIn b)) ∷ [])))
 
--- the later refusals
-abbrev pub bookOwn : Item → List Test
-bookOwn (car ts c) = carTests ts c
+-- 30 where no entry has the number
+unfoldable pub bookStrike : List Entry → ℕ → List Test
+bookStrike b number = refuseIf 30 (not (member number (map numberIn b))) ∷ []
 
 -- accepted, or the book's refusal
 abbrev pub bookVerdict : List Entry → Item → Verdict
-bookVerdict b i = first (bookAdmission b i ++ bookOwn i)
+bookVerdict b (car ts c) = first (bookAdmission b ts c ++ carTests ts c)
+bookVerdict b (strike number) = first (bookStrike b number)
 
-abbrev pub loadOf : Item → Load
-loadOf (car ts c) = record { number = c .number; measured = measured c; gross = λ p. massˣ gross p ts (measured c); net = λ p. massˣ net p ts (measured c) }
+abbrev pub loadOf : List Table → Car → Load
+loadOf ts c = record { number = c .number; measured = measured c; gross = λ p. massˣ gross p ts (measured c); net = λ p. massˣ net p ts (measured c) }
 
 -- a later refusal enters the number alone, an accepted car its exact gross and net
-abbrev pub entryBy : Verdict → Verdict → Item → List Entry
-entryBy (refuses n) own i = []
-entryBy accepts (refuses n) i = alone (itemNumber i) ∷ []
-entryBy accepts accepts i = loaded (loadOf i) ∷ []
+abbrev pub entryBy : Verdict → Verdict → List Table → Car → List Entry
+entryBy (refuses n) own ts c = []
+entryBy accepts (refuses n) ts c = alone (c .number) ∷ []
+entryBy accepts accepts ts c = loaded (loadOf ts c) ∷ []
 
+-- without the entry of a number
+abbrev pub without : ℕ → List Entry → List Entry
+without number b = selected (λ e. not (eqb (numberIn e) number)) b
+
+-- a strike removes its number's entry, if there is one
 abbrev pub bookStep : List Entry → Item → List Entry
-bookStep b i = b ++ entryBy (first (bookAdmission b i)) (first (bookOwn i)) i
+bookStep b (car ts c) = b ++ entryBy (first (bookAdmission b ts c)) (first (carTests ts c)) ts c
+bookStep b (strike number) = without number b
 
 -- the book after a list of items, and its verdicts on them, from a book b
 abbrev pub bookFrom : List Entry → List Item → List Entry

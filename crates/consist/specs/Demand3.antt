@@ -1,7 +1,9 @@
--- Demand 3 of document 01: the distance of every accepted car, the book of every list of cars, and the filling order.
+-- Demand 3 of document 01: the distance of every accepted car, the book of every list of cars and strikes, and the filling order.
 use Prim.Native.Nat.{ℕ, _*_, _≤_}
 use mathlib.Core.Path.{_≡_}
+use mathlib.Core.Bool.{Bool, false, cond, _||_}
 use mathlib.Core.List.{List, [], _∷_, _++_, map}
+use lib.Dec.{eqb}
 use lib.ListN.{length, getD}
 use Rattle.base.specs.Answer.{Verdict, accepts, refuses, Answer, figures, refusal}
 use Rattle.base.specs.Fraction.{Within}
@@ -15,8 +17,8 @@ use Rattle.car.specs.Car.{measured, aloneAnswer}
 use Rattle.car.specs.Exact.{massˣ, distance, Uncut}
 use Rattle.summing.specs.declared.Totals.{Totals}
 use Rattle.summing.specs.Sums.{Shown, sumsOf, totalIn, gradeTotals, together}
-use Rattle.consist.specs.Train.{Train, emptyTrain, enterAnswer, enterTrain}
-use Rattle.consist.specs.Book.{Item, car, itemMeasured, Load, exactMass, loads, loadsOfGrade, bookFrom, verdictsFrom}
+use Rattle.consist.specs.Train.{Train, emptyTrain, enterAnswer, enterTrain, strikeAnswer, strikeTrain}
+use Rattle.consist.specs.Book.{Item, car, strike, Load, loadOf, exactMass, loads, loadsOfGrade, bookFrom, verdictsFrom}
 
 -- What an answer says: whether the car is accepted, and the masses it shows, which stand fifth and sixth.
 
@@ -39,14 +41,16 @@ pub record Close (ts : List Table) (m : Measured) (a : Answer) : Type 0 where
   pub near : verdictIn a ≡ accepts → (k : Mass) (p : Power) → Within 100 (distance k) (massIn k a) (massˣ k p ts m)
   pub uncut : verdictIn a ≡ accepts → Uncut ts m
 
--- 2. The book. Cars are handed in one after another from the empty train, each with whatever tables, refused ones among them.
+-- 2. The book. Cars, each with whatever tables, and strikes are handed in one after another from the empty train, refused ones among them.
 
 -- the answer to an item, and the train handed back with it
 abbrev pub answerTo : Train → Item → Answer
 answerTo t (car ts c) = enterAnswer ts t c
+answerTo t (strike number) = strikeAnswer t number
 
 abbrev pub trainWith : Train → Item → Train
 trainWith t (car ts c) = enterTrain ts t c
+trainWith t (strike number) = strikeTrain t number
 
 -- the train after the items, and the answers to them, from a train t
 abbrev pub trainFrom : Train → List Item → Train
@@ -57,12 +61,52 @@ abbrev pub answersFrom : Train → List Item → List Answer
 answersFrom t [] = []
 answersFrom t (i ∷ is) = answerTo t i ∷ answersFrom (trainWith t i) is
 
--- the accepted cars, by their grade and the masses of the answers they got
+-- The history of lines: an accepted car counts where no later strike takes its number.
+
+-- a strike of the number is among the items
+abbrev pub struckIn : List Item → ℕ → Bool
+struckIn [] number = false
+struckIn (car ts c ∷ is) number = struckIn is number
+struckIn (strike n ∷ is) number = eqb number n || struckIn is number
+
+-- an accepted car on its tables, with the figures answered for it
+pub record Standing : Type 0 where
+  pub tables : List Table
+  pub car : Car
+  pub values : List ℕ
+
+abbrev pub standing : List Item → List Answer → List Standing
+standing [] answers = []
+standing (car ts c ∷ is) [] = []
+standing (car ts c ∷ is) (figures values ∷ answers) =
+    cond (struckIn is (c .number)) (standing is answers) (record { tables = ts; car = c; values = values } ∷ standing is answers)
+standing (car ts c ∷ is) (refusal number ∷ answers) = standing is answers
+standing (strike n ∷ is) [] = []
+standing (strike n ∷ is) (a ∷ answers) = standing is answers
+
+-- the verdict on the first strike of the number among the items, by the answers they got; where there is none, nothing was refused
+abbrev pub firstStrike : ℕ → List Item → List Answer → Verdict
+firstStrike number [] answers = accepts
+firstStrike number (i ∷ is) [] = accepts
+firstStrike number (car ts c ∷ is) (a ∷ answers) = firstStrike number is answers
+firstStrike number (strike n ∷ is) (a ∷ answers) = cond (eqb number n) (verdictIn a) (firstStrike number is answers)
+
+-- the first strike of its number behind an accepted car always finds it
+abbrev pub Found : List Item → List Answer → Type 0
+Found [] answers = Unit {0}
+Found (i ∷ is) [] = Unit {0}
+Found (car ts c ∷ is) (a ∷ answers) = (verdictIn a ≡ accepts → firstStrike (c .number) is answers ≡ accepts) × Found is answers
+Found (strike n ∷ is) (a ∷ answers) = Found is answers
+
+-- its grade and the masses answered, and its entry in the book
+abbrev pub shownOf : Standing → Shown
+shownOf s = record { grade = s .car .grade; gross = massIn gross (figures (s .values)); net = massIn net (figures (s .values)) }
+
+abbrev pub loadIn : Standing → Load
+loadIn s = loadOf (s .tables) (s .car)
+
 abbrev pub shown : List Item → List Answer → List Shown
-shown [] answers = []
-shown (i ∷ is) [] = []
-shown (i ∷ is) (figures values ∷ answers) = record { grade = itemMeasured i .grade; gross = massIn gross (figures values); net = massIn net (figures values) } ∷ shown is answers
-shown (i ∷ is) (refusal number ∷ answers) = shown is answers
+shown items answers = map shownOf (standing items answers)
 
 -- totals beside the book's entries with masses of the same cars: they count them, and lie within the distances, times the count, of the sums of the
 -- exact values, all to power 7 and all to power 8
@@ -72,10 +116,14 @@ pub record Beside (t : Totals) (ls : List Load) : Type 0 where
 
 -- one claim about the whole list: the train and the book agree
 pub record Reconciled (items : List Item) : Type 0 where
-  -- each car is answered with figures exactly when the book accepts it, else with the book's refusal
+  -- each car is answered with figures, and each strike with its number, exactly when the book accepts it, else with the book's refusal
   pub answered : map verdictIn (answersFrom emptyTrain items) ≡ verdictsFrom [] items
-  -- count and totals, of all cars and of each grade, are those of the accepted cars, with the gross and net answered for them
+  -- count and totals, of all cars and of each grade, are those of the accepted cars that no later strike takes, with the gross and net answered for them
   pub sums : trainFrom emptyTrain items .sums ≡ sumsOf (shown items (answersFrom emptyTrain items))
+  -- these cars, read off the history, are the book's entries with masses
+  pub history : loads (bookFrom [] items) ≡ map loadIn (standing items (answersFrom emptyTrain items))
+  -- none of them was taken by a strike, and each of the others was: the first strike behind it was answered with its number
+  pub found : Found items (answersFrom emptyTrain items)
   -- those of all cars are the sums of the grades'
   pub split : trainFrom emptyTrain items .sums .all ≡ together (trainFrom emptyTrain items .sums .grades)
   -- and they lie beside the book, as do those of each grade beside its entries of that grade

@@ -1,32 +1,30 @@
-// Enters a car in a train whose numbers lie in an array that is lent.
+// Enters a car in a train whose cars lie in arrays that are lent.
 ghost use mathlib.Core.Path.{_≡_};
-ghost use lib.ListN.{length};
-ghost use Rattle.base.specs.Limits.{mostCars};
 ghost use Rattle.base.specs.Answer.{firstNumber};
 ghost use Rattle.table.specs.Layout.{tablesOf};
 ghost use Rattle.table.specs.Inner.{Good};
 ghost use Rattle.car.specs.Car.{carTold};
-ghost use Rattle.summing.specs.Inner.{Sound};
 ghost use Rattle.consist.specs.Train.{enterAnswer, enterTrain};
-ghost use Rattle.consist.specs.Inner.{placeTests};
-ghost use Rattle.entering.specs.Lent.{lentTrain};
+ghost use Rattle.consist.specs.Inner.{placeTests, Sixty, SoundTrain};
+ghost use Rattle.consist.specs.Lent.{lentTrain};
+ghost use Rattle.entering.specs.Load.{loadAs};
 use base::MOST_CARS;
 use car::Car;
 use car::CarAnswer;
-use summing::Sums;
 use table::Directory;
 use table::PLACES;
 
-// All of a train but its numbers.
-pub struct Tally {
-    pub sums: Sums,
-    pub held: u32,
+// What a place holds beside the number: grade, gross and net in kg of an accepted car, else zeros.
+struct Load {
+    grade: u32,
+    gross: u32,
+    net: u32,
 }
 
-// What entering a car in such a train gives.
+// What entering a car in such a train gives: its answer, and how many cars the train then holds.
 pub struct Entered {
     pub answer: CarAnswer,
-    pub tally: Tally,
+    pub held: u32,
 }
 
 // 9 to 11 for a car of this number, in a train whose sums are sound; 0 where none applies.
@@ -46,42 +44,61 @@ fn place_refusal(held: u32, numbers: &[u32; MOST_CARS], number: u32) -> u32
     0
 }
 
-// Enters a car, for a caller with many: 7 and 8 do not turn the tables away, and the train is known to be sound.
+// What is held of a car beside its number, by its answer.
+fn load_of(grade: u32, answer: CarAnswer) -> Load
+    ensures { λ r. ⌜ r ≡ loadAs grade answer ⌝ }
+{
+    match answer {
+        CarAnswer::Accepted(f) => Load {
+            grade,
+            gross: f.gross,
+            net: f.net,
+        },
+        CarAnswer::Refused(_) => Load {
+            grade: 0,
+            gross: 0,
+            net: 0,
+        },
+    }
+}
+
+// Enters a car, for a caller with many: 7 and 8 do not turn the tables away, and the train is known to be sound. Its sums are those
+// that its cars make, and are not kept.
 pub fn enter_on(
-    tally: Tally,
+    held: u32,
     numbers: &mut [u32; MOST_CARS],
+    grades: &mut [u32; MOST_CARS],
+    grosses: &mut [u32; MOST_CARS],
+    nets: &mut [u32; MOST_CARS],
     d: Directory,
     levels: &[u32; PLACES],
     capacities: &[u32; PLACES],
     car: Car,
 ) -> Entered
-    requires { ⌜ (length (now numbers) ≡ mostCars) × Sound (tally .sums) × Good d (now levels) (now capacities) ⌝ }
+    requires { ⌜ Sixty (lentTrain held (now numbers) (now grades) (now grosses) (now nets)) × SoundTrain (lentTrain held (now numbers) (now grades) (now grosses) (now nets)) × Good d (now levels) (now capacities) ⌝ }
     ensures { λ r. ⌜
-        (carTold (r .answer) ≡ enterAnswer (tablesOf d (now (levels .entry)) (now (capacities .entry))) (lentTrain tally (now (numbers .entry))) car)
-        × (lentTrain (r .tally) (now (numbers .exit)) ≡ enterTrain (tablesOf d (now (levels .entry)) (now (capacities .entry))) (lentTrain tally (now (numbers .entry))) car)
+        (carTold (r .answer) ≡ enterAnswer (tablesOf d (now (levels .entry)) (now (capacities .entry))) (lentTrain held (now (numbers .entry)) (now (grades .entry)) (now (grosses .entry)) (now (nets .entry))) car)
+        × (lentTrain (r .held) (now (numbers .exit)) (now (grades .exit)) (now (grosses .exit)) (now (nets .exit)) ≡ enterTrain (tablesOf d (now (levels .entry)) (now (capacities .entry))) (lentTrain held (now (numbers .entry)) (now (grades .entry)) (now (grosses .entry)) (now (nets .entry))) car)
         ⌝ }
 {
     let number = car.number;
-    let held = tally.held;
     let refusal = place_refusal(held, numbers, number);
     if refusal != 0 {
         return Entered {
             answer: CarAnswer::Refused(refusal),
-            tally,
+            held,
         };
     }
     let grade = car.grade;
     let answer = working::work_on(d, levels, capacities, car);
-    let before = tally.sums;
-    let sums = summing::with_answer(before, grade, answer);
+    let load = load_of(grade, answer);
     let place = held as usize;
     numbers[place] = number;
-    let next = Tally {
-        sums,
-        held: held + 1,
-    };
+    grades[place] = load.grade;
+    grosses[place] = load.gross;
+    nets[place] = load.net;
     Entered {
         answer,
-        tally: next,
+        held: held + 1,
     }
 }

@@ -2,9 +2,9 @@
 ghost use mathlib.Core.Path.{_≡_};
 ghost use lib.ListN.{length};
 ghost use Rattle.car.specs.Car.{carOf, aloneAnswer, carTold};
-ghost use Rattle.consist.specs.Train.{emptyTrain, enterAnswer, enterTrain};
+ghost use Rattle.consist.specs.Train.{emptyTrain, enterAnswer, enterTrain, strikeAnswer, strikeTrain};
 ghost use Rattle.base.specs.Answer.{figures};
-ghost use Rattle.marshalling.specs.Handed.{lengthIs, sized, Handed, figuresLeft};
+ghost use Rattle.marshalling.specs.Handed.{lengthIs, numberHanded, sized, Handed, figuresLeft};
 ghost use Rattle.marshalling.specs.Layout.{tablesLent};
 ghost use Rattle.trainslice.specs.Layout.{trainPlaces, trainOf, trainNumbers, TrainHanded};
 ghost use Rattle.exported_cars.specs.Lengths.{carSized, trainSized, figureCount};
@@ -12,6 +12,7 @@ use car::CarAnswer;
 use marshalling::BAD_LENGTH;
 use reading::MOST_FIELDS;
 use train::Train;
+use train_strike::StrikeAnswer;
 use trainslice::TRAIN_PLACES;
 
 // How many numbers an accepted car shows.
@@ -128,4 +129,26 @@ pub extern "C" fn rack_train_enter(
         return hand_over(answer, figures);
     }
     BAD_LENGTH
+}
+
+// A number struck in a train: 0 where its car is taken out, and the train to hand in next.
+#[no_mangle]
+pub extern "C" fn rack_train_strike(train: &mut [u32], number: u32) -> u32
+    ensures { λ r. ⌜
+        (r ≡ numberHanded (sized (lengthIs trainPlaces (now (train .entry))) (strikeAnswer (trainOf (now (train .entry))) number)))
+        × TrainHanded (lengthIs trainPlaces (now (train .entry))) (strikeTrain (trainOf (now (train .entry))) number) (now (train .entry)) (now (train .exit))
+        ⌝ }
+{
+    if train.len() != TRAIN_PLACES {
+        return BAD_LENGTH;
+    }
+    let running = trainslice::train_of(train);
+    let step = running.strike(number);
+    let next = step.train;
+    trainslice::write_train(next, train);
+    let answer = step.answer;
+    match answer {
+        StrikeAnswer::Struck(_) => 0,
+        StrikeAnswer::Refused(refusal) => refusal,
+    }
 }

@@ -4,7 +4,7 @@ use mathlib.Core.Bool.{true}
 use mathlib.Core.List.{List, [], _∷_}
 use Rattle.base.specs.Answer.{Answer, refusal}
 use Rattle.reading.specs.declared.letter.Letter.{Letter}
-use Rattle.reading.specs.declared.letter.Letter.the-variants.{Table, Row, Car, End, CarAccepted, CarRefused, Totals, GradeTotals, SheetRefused}
+use Rattle.reading.specs.declared.letter.Letter.the-variants.{Table, Row, Car, Strike, End, CarAccepted, CarRefused, Totals, GradeTotals, SheetRefused}
 use Rattle.reading.specs.declared.letter.Line.{Line}
 use Rattle.reading.specs.declared.Found.{Found}
 use Rattle.reading.specs.declared.Found.the-variants.{Is, Nothing}
@@ -31,6 +31,7 @@ allLetters =
     candidate Table true
     ∷ candidate Row true
     ∷ candidate Car true
+    ∷ candidate Strike true
     ∷ candidate End true
     ∷ candidate CarAccepted true
     ∷ candidate CarRefused true

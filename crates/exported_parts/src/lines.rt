@@ -56,6 +56,9 @@ fn letter_named(b: u8) -> Found
     if b == b'C' {
         return Found::Is(Letter::Car);
     }
+    if b == b'K' {
+        return Found::Is(Letter::Strike);
+    }
     if b == b'E' {
         return Found::Is(Letter::End);
     }

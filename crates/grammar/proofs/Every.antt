@@ -10,11 +10,11 @@ use lib.ListN.{length, take, drop, length-append, length-drop}
 use lib.Seq.{append-snoc, take-at, take-all, drop-at, drop-drop}
 use borrow.Author.Tests.{eqb-true, ltb-false, eq-eqb, ne-eqb, lt-ltb, lt-leb, le-leb, not-false}
 use Rattle.base.specs.Answer.{accepts, first}
-use Rattle.base.specs.Limits.{largest, mostCarLines, highestLevel, greatestCapacity}
+use Rattle.base.specs.Limits.{largest, mostCarLines, mostStrikes, highestLevel, greatestCapacity}
 use Rattle.base.proofs.Choice.{same, neither}
 use Rattle.base.proofs.Lists.{map-append}
 use Rattle.base.proofs.Numbers.{inside}
-use Rattle.reading.specs.declared.letter.Letter.the-variants.{Car as C, End as E}
+use Rattle.reading.specs.declared.letter.Letter.the-variants.{Car as C, Strike as K, End as E}
 use Rattle.reading.specs.declared.letter.Line.{Line}
 use Rattle.reading.specs.declared.Found.the-variants.{Is}
 use Rattle.reading.specs.declared.Reading.the-variants.{Read}
@@ -27,12 +27,12 @@ use Rattle.line.proofs.RoundTrip.{bytes-read}
 use Rattle.table.specs.Table.{Row, Table, tableLineBad, firstRowBad, laterRowBad, rowBad, laterTests, rowsTests}
 use Rattle.table.proofs.Table.{passing, table-line-good}
 use Rattle.grammar.specs.Text.{textOf}
-use Rattle.grammar.specs.Grammar.{tLine, rLine, cLine, eLine, TrainLine, enters, asLine, carsIn, sheetLines, sheetText, CarNumbers, EachLine, WholeSheet, tablesBegun, linesBegun, Passed, Begun, kinds}
+use Rattle.grammar.specs.Grammar.{tLine, rLine, cLine, kLine, eLine, TrainLine, enters, strikes, asLine, carsIn, strikesIn, sheetLines, sheetText, CarNumbers, EachLine, WholeSheet, tablesBegun, linesBegun, Passed, Begun, kinds}
 use Rattle.grammar.specs.Faults.{lineFaults}
 use Rattle.grammar.specs.Sheet.{longest, SheetRead, refusedAt, whole, State, over, past, dueBy, dueOf, carLine, endLine, byLetter, stepOf, readFrom, start, sheetOf}
 use Rattle.grammar.specs.ByGrammar.{Fault, Refusal, tooLong, fault, bytesAfter}
-use Rattle.grammar.specs.Inner.{Sound}
-use Rattle.grammar.proofs.Rules.{with-row-last, last-rows-last, cars-more, table-taken, row-taken, car-taken}
+use Rattle.grammar.specs.Inner.{Sound, Counted}
+use Rattle.grammar.proofs.Rules.{with-row-last, last-rows-last, cars-more, cars-kept, strikes-kept, strikes-more, table-taken, row-taken, car-taken, strike-taken}
 use Rattle.grammar.proofs.Passed.{verdict-passed}
 use Rattle.grammar.proofs.Steps.{both-first, both-last, step-read}
 use Rattle.grammar.proofs.Turns.{sheet-long, sheet-short, sound-start, went-on, is-over}
@@ -83,17 +83,17 @@ module _ (s tail : List ℕ) (end : ℕ) where
   pub record At (owed : ℕ) (ts : List Table) (history : List TrainLine) (more : List Line) : Type 0 where
     pub at : ℕ
     pub line : ℕ
-    pub sound : Sound (length s) at line owed ts (carsIn history)
+    pub sound : Sound (length s) at line owed ts (carsIn history) (strikesIn history)
     pub rest : drop at s ≡ textOf more ++ tail
     pub count : line + length more ≡ end
-    pub same : readFrom s (record { at = at; line = line; owed = owed; tables = ts; cars = carsIn history; history = history }) ≡ readFrom s start
+    pub same : readFrom s (record { at = at; line = line; owed = owed; tables = ts; cars = carsIn history; struck = strikesIn history; history = history }) ≡ readFrom s start
 
   abbrev pub here : {owed : ℕ} {ts : List Table} {history : List TrainLine} {more : List Line} → At owed ts history more → State
-  here {owed = owed} {ts = ts} {history = history} a = record { at = a .at; line = a .line; owed = owed; tables = ts; cars = carsIn history; history = history }
+  here {owed = owed} {ts = ts} {history = history} a = record { at = a .at; line = a .line; owed = owed; tables = ts; cars = carsIn history; struck = strikesIn history; history = history }
 
   -- a line that may come next
   module _ (owed : ℕ) (ts : List Table) (history : List TrainLine) (l : Line) (more : List Line) (a : At owed ts history (l ∷ more)) (fits : Fits l)
-      (due : letterOf (byteOf (l .letter)) (dueBy owed (length ts) (carsIn history)) ≡ Is (l .letter)) where
+      (due : letterOf (byteOf (l .letter)) (dueBy owed (length ts) (carsIn history + strikesIn history)) ≡ Is (l .letter)) where
     rest-here : drop (a .at) s ≡ lineOf l ++ (textOf more ++ tail)
     unfolding textOf
     rest-here = a .rest ∙ append-assoc (lineOf l) (textOf more) tail
@@ -105,10 +105,10 @@ module _ (s tail : List ℕ) (end : ℕ) where
     read-on = step-read s (here a) (readAs l) (sym (bytes-read s (a .at) (dueOf (here a)) l due (fits .small) (fits .fourteen) bytes)) (Read (l .letter)) refl
 
     -- it is taken, and the reading goes on behind it
-    go-on : (owed′ : ℕ) (ts′ : List Table) (history′ : List TrainLine) → past (l .letter) (here a) owed′ ts′ (carsIn history′) history′ ≡ byLetter (length s) (here a) (l .letter) (readAs l .numbers)
+    go-on : (owed′ : ℕ) (ts′ : List Table) (history′ : List TrainLine) → past (l .letter) (here a) owed′ ts′ (carsIn history′) (strikesIn history′) history′ ≡ byLetter (length s) (here a) (l .letter) (readAs l .numbers)
         → At owed′ ts′ history′ more
     go-on owed′ ts′ history′ e =
-        let w = went-on s (here a) (past (l .letter) (here a) owed′ ts′ (carsIn history′) history′) (e ∙ read-on) (a .sound) _ refl in
+        let w = went-on s (here a) (past (l .letter) (here a) owed′ ts′ (carsIn history′) (strikesIn history′) history′) (e ∙ read-on) (a .sound) _ refl in
         record {
           at = a .at + widthOf (l .letter);
           line = a .line + 1;
@@ -177,16 +177,30 @@ module _ (s tail : List ℕ) (end : ℕ) where
       (record { fourteen = car-places car h; small = ap (λ (x : List ℕ). smallTo x mostFields) (append-nil car) ∙ h .small })
       (simp (lt-ltb 0 (length ts) some))
       0 ts (history ++ (enters car ∷ []))
-      (ap (λ (n : ℕ). past C (here a) 0 ts n (history ++ (enters car ∷ []))) (cars-more history car)
+      (ap₂ (λ (n k : ℕ). past C (here a) 0 ts n k (history ++ (enters car ∷ []))) (cars-more history car) (strikes-kept history car)
       ∙ car-taken (here a) car (history ++ (enters car ∷ [])) (lt-leb mostCarLines (carsIn history) few) refl
       ∙ ap (carLine (here a)) (sym (car-read car h)))
 
-  history-on : (ts : List Table) (history todo : List TrainLine) (more : List Line) → 0 < length ts → carsIn history + carsIn todo ≤ mostCarLines → EachLine todo → At 0 ts history (map asLine todo ++ more)
-      → At 0 ts (history ++ todo) more
-  history-on ts history [] more some few h a = rw (append-nil history) a
-  history-on ts history (enters car ∷ todo) more some few (h, hs) a =
-      rw (append-snoc history (enters car) todo) at (history-on ts (history ++ (enters car ∷ [])) todo more some (omega (arith, cars-more history car)) hs
+  strike-on : (ts : List Table) (history : List TrainLine) (number : ℕ) (more : List Line) → 0 < length ts → strikesIn history < mostStrikes → number ≤ largest → At 0 ts history (kLine number ∷ more)
+      → At 0 ts (history ++ (strikes number ∷ [])) more
+  unfolding letterOf smallTo
+  strike-on ts history number more some few h a =
+      go-on 0 ts history (kLine number) more a
+      (record { fourteen = refl; small = simp (le-leb number largest h) })
+      (simp (lt-ltb 0 (length ts) some))
+      0 ts (history ++ (strikes number ∷ []))
+      (ap₂ (λ (n k : ℕ). past K (here a) 0 ts n k (history ++ (strikes number ∷ []))) (cars-kept history number) (strikes-more history number)
+      ∙ strike-taken (here a) number (history ++ (strikes number ∷ [])) (lt-leb mostStrikes (strikesIn history) few) refl)
+
+  history-on : (ts : List Table) (history todo : List TrainLine) (more : List Line) → 0 < length ts → carsIn history + carsIn todo ≤ mostCarLines → strikesIn history + strikesIn todo ≤ mostStrikes
+      → EachLine todo → At 0 ts history (map asLine todo ++ more) → At 0 ts (history ++ todo) more
+  history-on ts history [] more some few less h a = rw (append-nil history) a
+  history-on ts history (enters car ∷ todo) more some few less (h, hs) a =
+      rw (append-snoc history (enters car) todo) at (history-on ts (history ++ (enters car ∷ [])) todo more some (omega (arith, cars-more history car)) (omega (arith, strikes-kept history car)) hs
       (car-on ts history car (map asLine todo ++ more) some (omega arith) h a))
+  history-on ts history (strikes number ∷ todo) more some few less (h, hs) a =
+      rw (append-snoc history (strikes number) todo) at (history-on ts (history ++ (strikes number ∷ [])) todo more some (omega (arith, cars-kept history number)) (omega (arith, strikes-more history number)) hs
+      (strike-on ts history number (map asLine todo ++ more) some (omega arith) h a))
 
   -- The beginning of a sheet, and its end.
 
@@ -195,7 +209,7 @@ module _ (s tail : List ℕ) (end : ℕ) where
   begun-on ts owed (line ∷ history) more b a =
       let h = b .behind (omega arith) in
       let c = tables-on [] ts owed (map asLine (line ∷ history) ++ more) (b .passed) (rw (append-assoc (tablesBegun ts owed) (map asLine (line ∷ history)) more) at a) in
-      rw (h .0) (history-on ts [] (line ∷ history) more (h .1) (omega (arith, b .sixty)) (b .each) (rw (h .0) at c))
+      rw (h .0) (history-on ts [] (line ∷ history) more (h .1) (omega (arith, b .few-cars)) (omega (arith, b .few-strikes)) (b .each) (rw (h .0) at c))
 
   -- whole, or bytes follow
   pub end-read : (ts : List Table) (history : List TrainLine) → 0 < length ts → carsIn history ≤ mostCarLines → At 0 ts history (eLine (carsIn history) ∷ [])
@@ -224,13 +238,13 @@ module _ (s tail : List ℕ) where
   pub sheet-read : (ts : List Table) (history : List TrainLine) → WholeSheet ts history → s ≡ sheetText ts history ++ tail → length s ≤ longest
       → sheetOf s ≡ cond (eqb (length tail) 0) (whole ts history) (refusedAt (1 + length (sheetLines ts history)) 9)
   sheet-read ts history w e short =
-      let begun : Begun ts 0 history = record { passed = verdict-passed [] ts (w .accepted); behind = λ _. (refl, w .some); sixty = w .sixty; each = w .each } in
+      let begun : Begun ts 0 history = record { passed = verdict-passed [] ts (w .accepted); behind = λ _. (refl, w .some); few-cars = w .few-cars; few-strikes = w .few-strikes; each = w .each } in
       let lines : sheetLines ts history ≡ linesBegun ts 0 history ++ (eLine (carsIn history) ∷ []) =
       sym (append-assoc (tablesBegun ts 0) (map asLine history) (eLine (carsIn history) ∷ []) ∙ ap (λ (x : List Line). x ++ (map asLine history ++ (eLine (carsIn history) ∷ []))) (begun-all ts)) in
       let end : ℕ = 1 + length (sheetLines ts history) in
       let a = first-line (linesBegun ts 0 history ++ (eLine (carsIn history) ∷ [])) end (rw lines at e) (ap (λ (x : List Line). 1 + length x) (sym lines)) in
       sym (sheet-short s short)
-      ∙ end-read s tail end ts history (w .some) (w .sixty) (begun-on s tail end ts 0 history (eLine (carsIn history) ∷ []) begun a)
+      ∙ end-read s tail end ts history (w .some) (w .few-cars) (begun-on s tail end ts 0 history (eLine (carsIn history) ∷ []) begun a)
 
 pub every-text : (ts : List Table) (history : List TrainLine) → WholeSheet ts history → sheetOf (sheetText ts history) ≡ whole ts history
 every-text ts history w = sheet-read (sheetText ts history) [] ts history w (sym (append-nil (sheetText ts history))) (text-short ts history w)
@@ -245,7 +259,7 @@ module _ (s : List ℕ) (line number : ℕ) (ts : List Table) (history : List Tr
       let a =
       begun-on s (f .rest) line ts (f .owed) history [] (f .begun)
       (first-line s (f .rest) (lines ++ []) line (f .text ∙ ap (λ (x : List Line). textOf x ++ f .rest) (sym (append-nil lines))) (ap (λ (x : List Line). 1 + length x) (append-nil lines) ∙ sym (f .due))) in
-      let e = step-refused s (here s (f .rest) line a) refl (λ h. f .begun .behind h .1) (ap (λ (x : List ℕ). first (lineFaults ts (f .owed) history x)) (a .rest) ∙ f .fault) in
+      let e = step-refused s (here s (f .rest) line a) (record { cars = refl; struck = refl }) (λ h. f .begun .behind h .1) (ap (λ (x : List ℕ). first (lineFaults ts (f .owed) history x)) (a .rest) ∙ f .fault) in
       let n : a .line ≡ line = omega (arith, a .count) in
       sym (sheet-short s (f .short))
       ∙ sym (a .same)

@@ -11,13 +11,13 @@ use lib.ListN.{length, getD, drop, replicate, length-drop}
 use lib.Seq.{getD-drop}
 use borrow.Author.Tests.{lt-ltb, le-ltb, eq-eqb, ne-eqb, not-true}
 use Rattle.base.specs.Answer.{Verdict, refuses, first}
-use Rattle.base.specs.Limits.{mostCarLines}
+use Rattle.base.specs.Limits.{mostCarLines, mostStrikes}
 use Rattle.base.proofs.Choice.{below, same}
 use Rattle.base.proofs.Answer.{one-applies}
 use Rattle.field.specs.declared.Field.{Field}
 use Rattle.field.specs.Field.{columns, columnOf, seenTo, finish, fieldAt}
 use Rattle.reading.specs.declared.letter.Letter.{Letter}
-use Rattle.reading.specs.declared.letter.Letter.the-variants.{Table as T, Row as R, Car as C, End as E}
+use Rattle.reading.specs.declared.letter.Letter.the-variants.{Table as T, Row as R, Car as C, Strike as K, End as E}
 use Rattle.reading.specs.declared.Due.{Due}
 use Rattle.reading.specs.declared.Found.{Found}
 use Rattle.reading.specs.declared.Found.the-variants.{Is, Nothing}
@@ -30,10 +30,11 @@ use Rattle.reading.proofs.Letters.{found}
 use Rattle.reading.proofs.Fields.{value-at}
 use Rattle.reading.proofs.Lines.{IsLine, is-line}
 use Rattle.table.specs.Table.{rowOf, Table, tableLineBad, rowBad}
-use Rattle.grammar.specs.Grammar.{TrainLine, carsIn, kinds, lastRows, mayCome}
+use Rattle.grammar.specs.Grammar.{TrainLine, carsIn, strikesIn, kinds, lastRows, mayCome}
 use Rattle.grammar.specs.Faults.{numberIn, letterIn, numberFaults, letterFaults, lineFaults}
 use Rattle.grammar.specs.Sheet.{State, refusedHere, dueBy, dueOf, byLetter, stepOf}
-use Rattle.grammar.proofs.Rules.{cars-all, table-refused, row-refused, car-refused, end-refused}
+use Rattle.grammar.specs.Inner.{Counted}
+use Rattle.grammar.proofs.Rules.{lines-all, table-refused, row-refused, car-refused, strike-refused, end-refused}
 use Rattle.grammar.proofs.Steps.{step-read}
 
 -- From a place of s on, and from the start of the rest.
@@ -77,16 +78,20 @@ width-rest s at k =
 
 -- The letters that may come next are those due.
 
--- what holds of the four bytes of a sheet's letters, and of a byte that is none of them
-by-byte : (P : ℕ → Type 0) → P 84 → P 82 → P 67 → P 69 → ((b : ℕ) → eqb b 84 ≡ false → eqb b 82 ≡ false → eqb b 67 ≡ false → eqb b 69 ≡ false → P b) → (b : ℕ) → P b
-by-byte P t r c e other b =
+-- what holds of the five bytes of a sheet's letters, and of a byte that is none of them
+by-byte : (P : ℕ → Type 0) → P 84 → P 82 → P 67 → P 75 → P 69
+    → ((b : ℕ) → eqb b 84 ≡ false → eqb b 82 ≡ false → eqb b 67 ≡ false → eqb b 75 ≡ false → eqb b 69 ≡ false → P b) → (b : ℕ) → P b
+by-byte P t r c k e other b =
     ⊎-elim (λ (z : b ≡ 84). rw z t)
     (λ (t′ : b ≡ 84 → ⊥).
     ⊎-elim (λ (z : b ≡ 82). rw z r)
     (λ (r′ : b ≡ 82 → ⊥).
     ⊎-elim (λ (z : b ≡ 67). rw z c)
     (λ (c′ : b ≡ 67 → ⊥).
-    ⊎-elim (λ (z : b ≡ 69). rw z e) (λ (e′ : b ≡ 69 → ⊥). other b (ne-eqb b 84 t′) (ne-eqb b 82 r′) (ne-eqb b 67 c′) (ne-eqb b 69 e′)) (same b 69))
+    ⊎-elim (λ (z : b ≡ 75). rw z k)
+    (λ (k′ : b ≡ 75 → ⊥).
+    ⊎-elim (λ (z : b ≡ 69). rw z e) (λ (e′ : b ≡ 69 → ⊥). other b (ne-eqb b 84 t′) (ne-eqb b 82 r′) (ne-eqb b 67 c′) (ne-eqb b 75 k′) (ne-eqb b 69 e′)) (same b 69))
+    (same b 75))
     (same b 67))
     (same b 82))
     (same b 84)
@@ -96,18 +101,18 @@ letters-due : (b : ℕ) (ts : List Table) (owed : ℕ) (history : List TrainLine
 unfolding letterOf
 letters-due b ts (suc owed) history h =
     let due : dueBy (suc owed) (length ts) (length history) ≡ rowOnly = simp (ne-eqb (suc owed) 0 (λ z. omega arith)) in
-    ap (letterOf b) due ∙ by-byte (λ (b : ℕ). letterOf b rowOnly ≡ letterIn b (R ∷ [])) refl refl refl refl (λ b t r c e. simp (t, r, c, e)) b
+    ap (letterOf b) due ∙ by-byte (λ (b : ℕ). letterOf b rowOnly ≡ letterIn b (R ∷ [])) refl refl refl refl refl (λ b t r c k e. simp (t, r, c, k, e)) b
 letters-due b [] zero [] h =
-    by-byte (λ (b : ℕ). letterOf b (dueBy 0 0 0) ≡ letterIn b (T ∷ [])) refl refl refl refl (λ b t r c e. simp (t, r, c, e)) b
+    by-byte (λ (b : ℕ). letterOf b (dueBy 0 0 0) ≡ letterIn b (T ∷ [])) refl refl refl refl refl (λ b t r c k e. simp (t, r, c, k, e)) b
 letters-due b [] zero (line ∷ history) h = absurd (omega (arith, h (omega arith)))
 letters-due b (t ∷ ts) zero [] h =
-    let d : Due = record { table = true; row = false; car = true; end = true } in
+    let d : Due = record { table = true; row = false; car = true; strike = true; end = true } in
     let due : dueBy 0 (suc (length ts)) 0 ≡ d = simp (lt-ltb 0 (suc (length ts)) (omega arith)) in
-    ap (letterOf b) due ∙ by-byte (λ (b : ℕ). letterOf b d ≡ letterIn b (T ∷ C ∷ E ∷ [])) refl refl refl refl (λ b t r c e. simp (t, r, c, e)) b
+    ap (letterOf b) due ∙ by-byte (λ (b : ℕ). letterOf b d ≡ letterIn b (T ∷ C ∷ K ∷ E ∷ [])) refl refl refl refl refl (λ b t r c k e. simp (t, r, c, k, e)) b
 letters-due b (t ∷ ts) zero (line ∷ history) h =
-    let d : Due = record { table = false; row = false; car = true; end = true } in
+    let d : Due = record { table = false; row = false; car = true; strike = true; end = true } in
     let due : dueBy 0 (suc (length ts)) (suc (length history)) ≡ d = simp (ne-eqb (suc (length history)) 0 (λ z. omega arith), lt-ltb 0 (suc (length ts)) (omega arith)) in
-    ap (letterOf b) due ∙ by-byte (λ (b : ℕ). letterOf b d ≡ letterIn b (C ∷ E ∷ [])) refl refl refl refl (λ b t r c e. simp (t, r, c, e)) b
+    ap (letterOf b) due ∙ by-byte (λ (b : ℕ). letterOf b d ≡ letterIn b (C ∷ K ∷ E ∷ [])) refl refl refl refl refl (λ b t r c k e. simp (t, r, c, k, e)) b
 
 -- What reading the line due gives is the verdict of the tests.
 
@@ -137,13 +142,13 @@ module _ (s : List ℕ) (st : State) where
       by-fields true false = refl
       by-fields false g = refl
 
-  pub line-verdict : st .cars ≡ carsIn (st .history) → (0 < length (st .history) → 0 < length (st .tables))
+  pub line-verdict : Counted st → (0 < length (st .history) → 0 < length (st .tables))
       → first (lineFaults (st .tables) (st .owed) (st .history) rest) ≡ verdictOf (lineAt s (st .at) (dueOf st) .reading)
   unfolding lineAt
   line-verdict counted h =
       let letter : Found = letterIn (getD rest 0 0) (mayCome (st .tables) (st .owed) (st .history)) in
       let found : letterOf (getD s (st .at) 0) (dueOf st) ≡ letter =
-      ap (λ (n : ℕ). letterOf (getD s (st .at) 0) (dueBy (st .owed) (length (st .tables)) n)) (counted ∙ cars-all (st .history))
+      ap (λ (n : ℕ). letterOf (getD s (st .at) 0) (dueBy (st .owed) (length (st .tables)) n)) (ap₂ (λ (a b : ℕ). a + b) (counted .cars) (counted .struck) ∙ lines-all (st .history))
       ∙ letters-due (getD s (st .at) 0) (st .tables) (st .owed) (st .history) h
       ∙ ap (λ (b : ℕ). letterIn b (mayCome (st .tables) (st .owed) (st .history))) (ap (λ (i : ℕ). getD s i 0) (sym (add-zero (st .at))) ∙ sym (getD-drop (st .at) s 0 0)) in
       by-letter (ltb (feed rest) (length rest)) letter
@@ -158,7 +163,7 @@ module _ (s : List ℕ) (st : State) where
 
   -- The line is refused where a test applies.
 
-  letter-refused : st .cars ≡ carsIn (st .history) → (l : Letter) (ns : List ℕ) {k : ℕ} → IsLine s (st .at) (dueOf st) l ns → verdictOf (Read l) ≡ refuses k → refusedHere st k ≡ byLetter (length s) st l ns
+  letter-refused : Counted st → (l : Letter) (ns : List ℕ) {k : ℕ} → IsLine s (st .at) (dueOf st) l ns → verdictOf (Read l) ≡ refuses k → refusedHere st k ≡ byLetter (length s) st l ns
   letter-refused counted l ns {k} h =
       found (λ m. IsLine s (st .at) (dueOf st) m ns → verdictOf (Read m) ≡ refuses k → refusedHere st k ≡ byLetter (length s) st m ns) (getD s (st .at) 0) l (dueOf st) (
         (λ _ _ h v.
@@ -171,19 +176,22 @@ module _ (s : List ℕ) (st : State) where
               ap (refusedHere st) (sym (p .1))
               ∙ row-refused st (rowOf (getD ns 0 0) (getD ns 1 0)) (ap₂ (λ (a b : ℕ). rowBad (lastRows (st .tables)) (rowOf a b)) (numbers-are h 0 (omega arith)) (numbers-are h 1 (omega arith)) ∙ p .0)),
           (
-            (λ _ _ h v. let p = one-applies 9 _ v in ap (refusedHere st) (sym (p .1)) ∙ car-refused st ns (ap (leb mostCarLines) counted ∙ p .0)),
+            (λ _ _ h v. let p = one-applies 9 _ v in ap (refusedHere st) (sym (p .1)) ∙ car-refused st ns (ap (leb mostCarLines) (counted .cars) ∙ p .0)),
             (
-              (λ _ _ h v.
-                  let p = one-applies 9 _ v in
-                  ap (refusedHere st) (sym (p .1))
-                  ∙ end-refused st (length s) (getD ns 0 0) (ap₂ eqb (numbers-are h 0 (omega arith)) counted ∙ not-true _ (p .0))),
-              tt,
+              (λ _ _ h v. let p = one-applies 9 _ v in ap (refusedHere st) (sym (p .1)) ∙ strike-refused st (getD ns 0 0) (ap (leb mostStrikes) (counted .struck) ∙ p .0)),
+              (
+                (λ _ _ h v.
+                    let p = one-applies 9 _ v in
+                    ap (refusedHere st) (sym (p .1))
+                    ∙ end-refused st (length s) (getD ns 0 0) (ap₂ eqb (numbers-are h 0 (omega arith)) (counted .cars) ∙ not-true _ (p .0))),
+                tt,
+              ),
             ),
           ),
         ),
       ) (h .found) h
 
-  pub step-refused : st .cars ≡ carsIn (st .history) → (0 < length (st .history) → 0 < length (st .tables)) → {k : ℕ} → first (lineFaults (st .tables) (st .owed) (st .history) rest) ≡ refuses k
+  pub step-refused : Counted st → (0 < length (st .history) → 0 < length (st .tables)) → {k : ℕ} → first (lineFaults (st .tables) (st .owed) (st .history) rest) ≡ refuses k
       → refusedHere st k ≡ stepOf s st
   step-refused counted h {k} f = go (lineAt s (st .at) (dueOf st) .reading) refl
     where

@@ -12,11 +12,11 @@ use lib.ListN.{length, getD, take, drop, length-append, length-drop, take-append
 use lib.Seq.{take-add, take-all}
 use borrow.Author.Tests.{eqb-true, eqb-false, ltb-true, ltb-false}
 use Rattle.base.specs.Answer.{accepts, refuses, first}
-use Rattle.base.specs.Limits.{mostCarLines}
+use Rattle.base.specs.Limits.{mostCarLines, mostStrikes}
 use Rattle.base.proofs.Choice.{below, cond-either}
 use Rattle.base.proofs.Lists.{map-append}
 use Rattle.reading.specs.declared.letter.Letter.{Letter}
-use Rattle.reading.specs.declared.letter.Letter.the-variants.{Table as T, Row as R, Car as C, End as E}
+use Rattle.reading.specs.declared.letter.Letter.the-variants.{Table as T, Row as R, Car as C, Strike as K, End as E}
 use Rattle.reading.specs.declared.letter.Line.{Line}
 use Rattle.reading.specs.declared.Reading.{Reading}
 use Rattle.reading.specs.declared.Reading.the-variants.{Read, Refused}
@@ -27,12 +27,12 @@ use Rattle.reading.proofs.Lines.{IsLine, is-line}
 use Rattle.line.proofs.RoundTrip.{read-bytes}
 use Rattle.table.specs.Table.{Row, rowOf, Table, tableLineBad, rowBad}
 use Rattle.grammar.specs.Text.{textOf}
-use Rattle.grammar.specs.Grammar.{tLine, rLine, cLine, eLine, tableLines, TrainLine, enters, asLine, carsIn, sheetLines, sheetText, tablesBegun, linesBegun, Passed, kinds, lastRows}
+use Rattle.grammar.specs.Grammar.{tLine, rLine, cLine, kLine, eLine, tableLines, TrainLine, enters, strikes, asLine, carsIn, sheetLines, sheetText, tablesBegun, linesBegun, Passed, kinds, lastRows}
 use Rattle.grammar.specs.Faults.{lineFaults}
-use Rattle.grammar.specs.Sheet.{longest, SheetRead, refusedAt, whole, State, Step, next, over, dueOf, withRow, tableLine, rowLine, carLine, endLine, byLetter, byReading, stepOf, after, lines, start, sheetOf}
+use Rattle.grammar.specs.Sheet.{longest, SheetRead, refusedAt, whole, State, Step, next, over, dueOf, withRow, tableLine, rowLine, carLine, strikeLine, endLine, byLetter, byReading, stepOf, after, lines, start, sheetOf}
 use Rattle.grammar.specs.ByGrammar.{Refusal, tooLong, fault, bytesAfter, RefusedSheet}
 use Rattle.grammar.specs.Inner.{SoundState, Recorded, LinesRead}
-use Rattle.grammar.proofs.Rules.{cars-all}
+use Rattle.grammar.proofs.Rules.{lines-all}
 use Rattle.grammar.proofs.Text.{text-snoc, begun-all}
 use Rattle.grammar.proofs.Steps.{both-last, settled, lacking, some-tables, whole-good, After, after-step}
 use Rattle.grammar.proofs.Turns.{sound-start, start-recorded}
@@ -122,7 +122,7 @@ module _ (s : List ℕ) (st : State) (sound : SoundState (length s) st) (told : 
       fault (record {
         owed = st .owed;
         rest = drop (st .at) s;
-        begun = record { passed = sound .passed; behind = told .behind; sixty = omega (arith, sound .sixty, told .recorded .counted); each = told .recorded .each };
+        begun = record { passed = sound .passed; behind = told .behind; few-cars = omega (arith, sound .few-cars, told .recorded .counted .cars); few-strikes = omega (arith, sound .few-strikes, told .recorded .counted .struck); each = told .recorded .each };
         text = sym (take-append-drop (st .at) s) ∙ ap (λ (x : List ℕ). x ++ drop (st .at) s) (told .bytes);
         short = short;
         due = told .number;
@@ -138,8 +138,8 @@ module _ (s : List ℕ) (st : State) (sound : SoundState (length s) st) (told : 
     unfolding tableLine values
     told-table d v h =
         let none = settled (st .owed) _ d in
-        let none-behind = eqb-true (st .cars) 0 (both-last (eqb (st .owed) 0) (eqb (st .cars) 0) d) in
-        let empty : length (st .history) ≡ 0 = omega (arith, told .recorded .counted, cars-all (st .history)) in
+        let none-behind = eqb-true (st .cars + st .struck) 0 (both-last (eqb (st .owed) 0) (eqb (st .cars + st .struck) 0) d) in
+        let empty : length (st .history) ≡ 0 = omega (arith, told .recorded .counted .cars, told .recorded .counted .struck, lines-all (st .history)) in
         let line : record { letter = T; numbers = ns } ≡ tLine (getD ns 0 0) (getD ns 1 0) = ap (λ (x : List ℕ). record { letter = T; numbers = x }) (h .are) ∙ ap (λ (x : List ℕ). tLine (getD x 0 0) (getD x 1 0)) (sym (h .are)) in
         let more = more-table (st .tables) (st .owed) (st .history) (getD ns 0 0) (getD ns 1 0) none empty in
         cond-either (Goes s) (tableLineBad (kinds (st .tables)) (getD ns 0 0) (getD ns 1 0)) _ _
@@ -164,11 +164,22 @@ module _ (s : List ℕ) (st : State) (sound : SoundState (length s) st) (told : 
     unfolding carLine
     told-car d v h =
         let none = settled (st .owed) _ d in
-        let some = some-tables (st .owed) (st .tables) (st .cars) d in
+        let some = some-tables (st .owed) (st .tables) (st .cars + st .struck) d in
         let line : record { letter = C; numbers = ns } ≡ cLine ns = ap (λ (x : List ℕ). record { letter = C; numbers = x }) (sym (append-nil ns)) in
         let more = more-behind (st .tables) (st .owed) (st .history) (enters ns) in
         cond-either (Goes s) (leb mostCarLines (st .cars)) _ _
-        (λ bad. at-fault (v ∙ ap (λ (b : Bool). cond b (refuses 9) accepts) (ap (leb mostCarLines) (sym (told .recorded .counted)) ∙ bad)))
+        (λ bad. at-fault (v ∙ ap (λ (b : Bool). cond b (refuses 9) accepts) (ap (leb mostCarLines) (sym (told .recorded .counted .cars)) ∙ bad)))
+        (λ _ kept. record { bytes = bytes-more h _ _ line more; number = number-more h _ _ line more; behind = λ _. (none, omega arith); recorded = kept })
+
+    told-strike : dueOf st .strike ≡ true → ByNumbers K → IsLine s (st .at) (dueOf st) K ns → Goes s (strikeLine st (getD ns 0 0))
+    unfolding strikeLine values
+    told-strike d v h =
+        let none = settled (st .owed) _ d in
+        let some = some-tables (st .owed) (st .tables) (st .cars + st .struck) d in
+        let line : record { letter = K; numbers = ns } ≡ kLine (getD ns 0 0) = ap (λ (x : List ℕ). record { letter = K; numbers = x }) (h .are) ∙ ap (λ (x : List ℕ). kLine (getD x 0 0)) (sym (h .are)) in
+        let more = more-behind (st .tables) (st .owed) (st .history) (strikes (getD ns 0 0)) in
+        cond-either (Goes s) (leb mostStrikes (st .struck)) _ _
+        (λ bad. at-fault (v ∙ ap (λ (b : Bool). cond b (refuses 9) accepts) (ap (leb mostStrikes) (sym (told .recorded .counted .struck)) ∙ bad)))
         (λ _ kept. record { bytes = bytes-more h _ _ line more; number = number-more h _ _ line more; behind = λ _. (none, omega arith); recorded = kept })
 
     told-end : dueOf st .end ≡ true → ByNumbers E → IsLine s (st .at) (dueOf st) E ns → Goes s (endLine (length s) st (getD ns 0 0))
@@ -179,7 +190,7 @@ module _ (s : List ℕ) (st : State) (sound : SoundState (length s) st) (told : 
         let more = more-end (st .tables) (st .owed) (st .history) none in
         cond-either (Goes s) (eqb (getD ns 0 0) (st .cars)) _ _
         (λ c.
-        let line′ = line ∙ ap eLine (eqb-true (getD ns 0 0) (st .cars) c ∙ told .recorded .counted) in
+        let line′ = line ∙ ap eLine (eqb-true (getD ns 0 0) (st .cars) c ∙ told .recorded .counted .cars) in
         let bytes = bytes-more h _ _ line′ more in
         cond-either (Explained s (st .tables) (st .history)) (eqb (st .at + widthOf E) (length s)) _ _
         (λ e. sym (take-all (st .at + widthOf E) s (omega (arith, eqb-true (st .at + widthOf E) (length s) e))) ∙ bytes)
@@ -196,12 +207,12 @@ module _ (s : List ℕ) (st : State) (sound : SoundState (length s) st) (told : 
           due = number-more h _ _ line′ more;
           nine = refl;
         })))
-        (λ bad. at-fault (v ∙ ap (λ (b : Bool). cond (not b) (refuses 9) accepts) (ap₂ eqb (sym (numbers-are s st h 0 (omega arith))) (sym (told .recorded .counted)) ∙ bad)))
+        (λ bad. at-fault (v ∙ ap (λ (b : Bool). cond (not b) (refuses 9) accepts) (ap₂ eqb (sym (numbers-are s st h 0 (omega arith))) (sym (told .recorded .counted .cars)) ∙ bad)))
 
     told-letter : (l : Letter) → ByNumbers l → IsLine s (st .at) (dueOf st) l ns → Goes s (byLetter (length s) st l ns)
     told-letter l v h =
         found (λ m. ByNumbers m → IsLine s (st .at) (dueOf st) m ns → Goes s (byLetter (length s) st m ns)) (getD s (st .at) 0) l (dueOf st)
-        ((λ _ d. told-table d), ((λ _ d. told-row d), ((λ _ d. told-car d), ((λ _ d. told-end d), tt)))) (h .found) v h
+        ((λ _ d. told-table d), ((λ _ d. told-row d), ((λ _ d. told-car d), ((λ _ d. told-strike d), ((λ _ d. told-end d), tt))))) (h .found) v h
 
   told-step : Goes s (stepOf s st)
   unfolding stepOf

@@ -6,12 +6,12 @@ use mathlib.Core.List.{List, [], _∷_}
 use native.Mathlib.Omega.{arith}
 use lib.Dec.{ltb, leb, eqb}
 use lib.ListN.{length, getD, length-append}
-use borrow.Author.Tests.{leb-false, eqb-true, eqb-false, not-true}
-use Rattle.base.specs.Limits.{mostCarLines}
-use Rattle.base.proofs.Choice.{never, cond-either}
+use borrow.Author.Tests.{leb-true, leb-false, eqb-true, eqb-false, not-true}
+use Rattle.base.specs.Limits.{largest, mostCarLines, mostStrikes}
+use Rattle.base.proofs.Choice.{both, never, cond-either}
 use Rattle.base.proofs.Lists.{each-append}
 use Rattle.reading.specs.declared.letter.Letter.{Letter}
-use Rattle.reading.specs.declared.letter.Letter.the-variants.{Table as T, Row as R, Car as C, End as E}
+use Rattle.reading.specs.declared.letter.Letter.the-variants.{Table as T, Row as R, Car as C, Strike as K, End as E}
 use Rattle.reading.specs.declared.Due.{Due}
 use Rattle.reading.specs.declared.Found.{Found}
 use Rattle.reading.specs.declared.Found.the-variants.{Is, Nothing}
@@ -23,13 +23,14 @@ use Rattle.reading.specs.Reading.{letterOf, feedAt, good, values, refusedLine, 
 use Rattle.reading.proofs.Letters.{found}
 use Rattle.reading.proofs.Fields.{length-values}
 use Rattle.reading.proofs.Lines.{IsLine, is-line}
+use Rattle.line.specs.Writing.{smallTo}
 use Rattle.line.proofs.RoundTrip.{read-small}
 use Rattle.table.specs.Table.{rowOf, Table, tableLineBad, rowBad}
-use Rattle.grammar.specs.Grammar.{TrainLine, enters, Fitting, CarNumbers, WholeSheet, kinds, lastRows}
-use Rattle.grammar.specs.Sheet.{longest, State, Step, next, over, refusedHere, dueBy, dueOf, tableLine, rowLine, carLine, endLine, byLetter, byReading, stepOf}
+use Rattle.grammar.specs.Grammar.{TrainLine, enters, strikes, Fitting, CarNumbers, WholeSheet, kinds, lastRows}
+use Rattle.grammar.specs.Sheet.{longest, State, Step, next, over, refusedHere, dueBy, dueOf, tableLine, rowLine, carLine, strikeLine, endLine, byLetter, byReading, stepOf}
 use Rattle.grammar.specs.Proper.{Proper}
 use Rattle.grammar.specs.Inner.{SoundState, Recorded}
-use Rattle.grammar.proofs.Rules.{cars-more}
+use Rattle.grammar.proofs.Rules.{cars-more, cars-kept, strikes-kept, strikes-more}
 use Rattle.grammar.proofs.Passed.{passed-verdict, few-accepted, passed-table, passed-row}
 
 -- A letter that was found is due.
@@ -48,10 +49,10 @@ settled owed x e = eqb-true owed 0 (both-first (eqb owed 0) x e)
 pub lacking : (owed : ℕ) → not (eqb owed 0) ≡ true → 0 < owed
 lacking owed e = let n = eqb-false owed 0 (not-true (eqb owed 0) e) in omega arith
 
--- C and E are not due before a table
-pub some-tables : (owed : ℕ) (ts : List Table) (cars : ℕ) → dueBy owed (length ts) cars .end ≡ true → 1 ≤ length ts
-some-tables owed [] cars e = absurd (true≢false (sym (both-last (eqb owed 0) false e)))
-some-tables owed (t ∷ ts) cars e = omega arith
+-- C, K and E are not due before a table
+pub some-tables : (owed : ℕ) (ts : List Table) (behind : ℕ) → dueBy owed (length ts) behind .end ≡ true → 1 ≤ length ts
+some-tables owed [] behind e = absurd (true≢false (sym (both-last (eqb owed 0) false e)))
+some-tables owed (t ∷ ts) behind e = omega arith
 
 -- The line due, by what reading it gave.
 
@@ -65,7 +66,7 @@ module _ (s : List ℕ) (st : State) (r : LineRead) (er : r ≡ lineAt s (st .at
   pub row-owed : r .reading ≡ Read R → 0 < st .owed
   row-owed e =
       found (λ l. l ≡ R → 0 < st .owed) (getD s (st .at) 0) R (dueOf st)
-      ((λ _ _ q. never (cc)), ((λ _ d _. lacking (st .owed) d), ((λ _ _ q. never (cc)), ((λ _ _ q. never (cc)), tt))))
+      ((λ _ _ q. never (cc)), ((λ _ d _. lacking (st .owed) d), ((λ _ _ q. never (cc)), ((λ _ _ q. never (cc)), ((λ _ _ q. never (cc)), tt)))))
       (is-line s (st .at) (dueOf st) R (ap (λ (y : LineRead). y .reading) (sym er) ∙ e) .found) refl
 
 -- A line that is refused is so by 3 to 6.
@@ -105,7 +106,14 @@ module _ (s : List ℕ) (st : State) (sound : SoundState (length s) st) where
       let none = settled (st .owed) _ d in
       let verdict = passed-verdict [] (st .tables) (rw none at (sound .passed)) in
       let few = few-accepted [] (st .tables) verdict (omega arith) in
-      record { some = some-tables (st .owed) (st .tables) (st .cars) d; four = omega arith; accepted = verdict; sixty = omega (arith, sound .sixty, told .counted); each = told .each }
+      record {
+        some = some-tables (st .owed) (st .tables) (st .cars + st .struck) d;
+        four = omega arith;
+        accepted = verdict;
+        few-cars = omega (arith, sound .few-cars, told .counted .cars);
+        few-strikes = omega (arith, sound .few-strikes, told .counted .struck);
+        each = told .each;
+      }
 
   module _ (ns : List ℕ) where
     after-table : dueOf st .table ≡ true → IsLine s (st .at) (dueOf st) T ns → After (length s) st (tableLine st (getD ns 0 0) (getD ns 1 0))
@@ -121,10 +129,11 @@ module _ (s : List ℕ) (st : State) (sound : SoundState (length s) st) where
             within = omega arith;
             number = omega (arith, sound .number);
             passed = passed-table [] (st .tables) (getD ns 0 0) (getD ns 1 0) (rw none at (sound .passed)) e;
-            sixty = sound .sixty;
+            few-cars = sound .few-cars;
+            few-strikes = sound .few-strikes;
           },
           omega arith,
-          λ told. record { each = told .each; counted = told .counted },
+          λ told. record { each = told .each; counted = record { cars = told .counted .cars; struck = told .counted .struck } },
         ))
 
     after-row : dueOf st .row ≡ true → IsLine s (st .at) (dueOf st) R ns → After (length s) st (rowLine st (rowOf (getD ns 0 0) (getD ns 1 0)))
@@ -141,10 +150,11 @@ module _ (s : List ℕ) (st : State) (sound : SoundState (length s) st) where
             within = omega arith;
             number = omega (arith, sound .number);
             passed = passed-row [] (st .tables) (st .owed) row some (sound .passed) e;
-            sixty = sound .sixty;
+            few-cars = sound .few-cars;
+            few-strikes = sound .few-strikes;
           },
           omega arith,
-          λ told. record { each = told .each; counted = told .counted },
+          λ told. record { each = told .each; counted = record { cars = told .counted .cars; struck = told .counted .struck } },
         ))
 
     after-car : IsLine s (st .at) (dueOf st) C ns → After (length s) st (carLine st ns)
@@ -163,10 +173,38 @@ module _ (s : List ℕ) (st : State) (sound : SoundState (length s) st) where
             within = omega arith;
             number = omega (arith, sound .number);
             passed = sound .passed;
-            sixty = omega (arith, leb-false mostCarLines (st .cars) e);
+            few-cars = omega (arith, leb-false mostCarLines (st .cars) e);
+            few-strikes = sound .few-strikes;
           },
           omega arith,
-          λ told. record { each = each-append Fitting (st .history) (enters ns ∷ []) (told .each) (car, tt); counted = omega (arith, told .counted, cars-more (st .history) ns) },
+          λ told. record {
+            each = each-append Fitting (st .history) (enters ns ∷ []) (told .each) (car, tt);
+            counted = record { cars = omega (arith, told .counted .cars, cars-more (st .history) ns); struck = told .counted .struck ∙ sym (strikes-kept (st .history) ns) };
+          },
+        ))
+
+    after-strike : IsLine s (st .at) (dueOf st) K ns → After (length s) st (strikeLine st (getD ns 0 0))
+    unfolding strikeLine smallTo
+    after-strike h =
+        let p = h .place in
+        let w = h .within in
+        let number : ℕ = getD ns 0 0 in
+        let small : number ≤ largest = leb-true number largest (both true (leb number largest) (read-small s (st .at) (dueOf st) K ns h) .1) in
+        cond-either (After (length s) st) (leb mostStrikes (st .struck)) _ _
+        (λ _. refused 9 (omega arith) (omega arith))
+        (λ e. (
+          record {
+            within = omega arith;
+            number = omega (arith, sound .number);
+            passed = sound .passed;
+            few-cars = sound .few-cars;
+            few-strikes = omega (arith, leb-false mostStrikes (st .struck) e);
+          },
+          omega arith,
+          λ told. record {
+            each = each-append Fitting (st .history) (strikes number ∷ []) (told .each) (small, tt);
+            counted = record { cars = told .counted .cars ∙ sym (cars-kept (st .history) number); struck = omega (arith, told .counted .struck, strikes-more (st .history) number) };
+          },
         ))
 
     after-end : dueOf st .end ≡ true → IsLine s (st .at) (dueOf st) E ns → After (length s) st (endLine (length s) st (getD ns 0 0))
@@ -184,7 +222,7 @@ module _ (s : List ℕ) (st : State) (sound : SoundState (length s) st) where
     after-letter : (l : Letter) → IsLine s (st .at) (dueOf st) l ns → After (length s) st (byLetter (length s) st l ns)
     after-letter l h =
         found (λ m. IsLine s (st .at) (dueOf st) m ns → After (length s) st (byLetter (length s) st m ns)) (getD s (st .at) 0) l (dueOf st)
-        ((λ _ d. after-table d), ((λ _ d. after-row d), ((λ _ _. after-car), ((λ _ d. after-end d), tt)))) (h .found) h
+        ((λ _ d. after-table d), ((λ _ d. after-row d), ((λ _ _. after-car), ((λ _ _. after-strike), ((λ _ d. after-end d), tt))))) (h .found) h
 
   pub after-step : After (length s) st (stepOf s st)
   unfolding stepOf

@@ -7,7 +7,7 @@ use native.Mathlib.Omega.{arith}
 use lib.ListN.{length, length-append}
 use Rattle.base.specs.Answer.{accepts, first}
 use Rattle.base.specs.Limits.{mostRows}
-use Rattle.reading.specs.declared.letter.Letter.the-variants.{Table as T, Row as R, Car as C, End as E}
+use Rattle.reading.specs.declared.letter.Letter.the-variants.{Table as T, Row as R, Car as C, Strike as K, End as E}
 use Rattle.reading.specs.declared.letter.Line.{Line}
 use Rattle.reading.specs.Letter.{widthOf, mostFields}
 use Rattle.line.specs.Writing.{lineOf}
@@ -15,7 +15,7 @@ use Rattle.line.proofs.Bytes.{length-lineOf}
 use Rattle.table.specs.Table.{Row, Table, tablesTestsAfter}
 use Rattle.table.proofs.Table.{next-table}
 use Rattle.grammar.specs.Text.{textOf}
-use Rattle.grammar.specs.Grammar.{tLine, rLine, cLine, eLine, tableLines, tablesLines, TrainLine, enters, asLine, carsIn, sheetText, CarNumbers, EachLine, WholeSheet, tablesBegun}
+use Rattle.grammar.specs.Grammar.{tLine, rLine, cLine, kLine, eLine, tableLines, tablesLines, TrainLine, enters, strikes, asLine, carsIn, strikesIn, sheetText, CarNumbers, EachLine, WholeSheet, tablesBegun}
 use Rattle.grammar.specs.Sheet.{longest}
 
 pub text-append : (a b : List Line) → textOf (a ++ b) ≡ textOf a ++ textOf b
@@ -56,10 +56,11 @@ tables-length used (t ∷ ts) e =
 pub car-places : (car : List ℕ) → CarNumbers car → length (cLine car .numbers) ≡ mostFields
 car-places car h = ap length (append-nil car) ∙ h .fourteen
 
-history-length : (history : List TrainLine) → EachLine history → length (textOf (map asLine history)) ≡ widthOf C * carsIn history
+history-length : (history : List TrainLine) → EachLine history → length (textOf (map asLine history)) ≡ widthOf C * carsIn history + widthOf K * strikesIn history
 unfolding textOf
 history-length [] e = refl
 history-length (enters car ∷ history) (e, es) = rw (length-append, length-lineOf (cLine car) (car-places car e), history-length history es) (omega arith)
+history-length (strikes number ∷ history) (e, es) = rw (length-append, length-lineOf (kLine number) refl, history-length history es) (omega arith)
 
 pub text-short : (ts : List Table) (history : List TrainLine) → WholeSheet ts history → length (sheetText ts history) ≤ longest
 unfolding textOf
@@ -71,4 +72,6 @@ text-short ts history w =
       text-length (map asLine history) (eLine (carsIn history) ∷ []),
       tables-length [] ts (w .accepted),
       history-length history (w .each),
+      w .few-cars,
+      w .few-strikes,
     )

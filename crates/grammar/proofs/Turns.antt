@@ -37,10 +37,10 @@ lines-proper (suc k) s st b h c w = go (λ st′ g i d. lines-proper k s st′ b
     go later (over st′ r) a = a b c
 
 start-sound : (n : ℕ) → SoundState n start
-start-sound n = record { within = omega arith; number = omega arith; passed = refl; sixty = omega arith }
+start-sound n = record { within = omega arith; number = omega arith; passed = refl; few-cars = omega arith; few-strikes = omega arith }
 
 pub start-recorded : Recorded start
-start-recorded = record { each = tt; counted = refl }
+start-recorded = record { each = tt; counted = record { cars = refl; struck = refl } }
 
 pub sheet-proper : (s : List ℕ) → Proper (length s) (sheetOf s)
 unfolding sheetOf

@@ -5,16 +5,16 @@ use mathlib.Core.List.{List, [], _∷_}
 use lib.Dec.{ltb, leb, eqb}
 use lib.ListN.{length, getD}
 use Rattle.base.specs.Answer.{Test, refuseIf}
-use Rattle.base.specs.Limits.{mostCarLines}
+use Rattle.base.specs.Limits.{mostCarLines, mostStrikes}
 use Rattle.field.specs.Field.{columns, fieldAt}
 use Rattle.reading.specs.declared.letter.Letter.{Letter}
-use Rattle.reading.specs.declared.letter.Letter.the-variants.{Table as T, Row as R, Car as C, End as E, CarAccepted, CarRefused, Totals, GradeTotals, SheetRefused}
+use Rattle.reading.specs.declared.letter.Letter.the-variants.{Table as T, Row as R, Car as C, Strike as K, End as E, CarAccepted, CarRefused, Totals, GradeTotals, SheetRefused}
 use Rattle.reading.specs.declared.Found.{Found}
 use Rattle.reading.specs.declared.Found.the-variants.{Is, Nothing}
 use Rattle.reading.specs.Letter.{byteOf, countOf, widthOf}
 use Rattle.reading.specs.Reading.{feed, fieldValue, good}
 use Rattle.table.specs.Table.{rowOf, Table, tableLineBad, rowBad}
-use Rattle.grammar.specs.Grammar.{TrainLine, carsIn, kinds, lastRows, mayCome}
+use Rattle.grammar.specs.Grammar.{TrainLine, carsIn, strikesIn, kinds, lastRows, mayCome}
 
 -- number j of the line that the rest starts with
 abbrev pub numberIn : List ℕ → ℕ → ℕ
@@ -26,11 +26,12 @@ letterIn b [] = Nothing
 letterIn b (l ∷ ls) = cond (eqb b (byteOf l)) (Is l) (letterIn b ls)
 
 module _ (tables : List Table) (history : List TrainLine) (rest : List ℕ) where
-  -- 7: the T line's numbers. 8: the R line's. 9: the C line is the sixty-first, or E's number is not the number of C lines
+  -- 7: the T line's numbers. 8: the R line's. 9: the C line is the hundred and twenty-first, the K line is the sixty-first, or E's number is not the number of C lines
   abbrev pub numberFaults : Letter → List Test
   numberFaults T = refuseIf 7 (tableLineBad (kinds tables) (numberIn rest 0) (numberIn rest 1)) ∷ []
   numberFaults R = refuseIf 8 (rowBad (lastRows tables) (rowOf (numberIn rest 0) (numberIn rest 1))) ∷ []
   numberFaults C = refuseIf 9 (leb mostCarLines (carsIn history)) ∷ []
+  numberFaults K = refuseIf 9 (leb mostStrikes (strikesIn history)) ∷ []
   numberFaults E = refuseIf 9 (not (eqb (numberIn rest 0) (carsIn history))) ∷ []
   numberFaults CarAccepted = []
   numberFaults CarRefused = []

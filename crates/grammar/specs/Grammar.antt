@@ -5,10 +5,10 @@ use mathlib.Core.Bool.{true, false}
 use mathlib.Core.List.{List, [], _∷_, _++_, map}
 use lib.ListN.{length}
 use Rattle.base.specs.Answer.{accepts, first}
-use Rattle.base.specs.Limits.{mostTables, mostCarLines}
+use Rattle.base.specs.Limits.{largest, mostTables, mostCarLines, mostStrikes}
 use Rattle.base.specs.Lists.{Each}
 use Rattle.reading.specs.declared.letter.Letter.{Letter}
-use Rattle.reading.specs.declared.letter.Letter.the-variants.{Table as T, Row as R, Car as C, End as E}
+use Rattle.reading.specs.declared.letter.Letter.the-variants.{Table as T, Row as R, Car as C, Strike as K, End as E}
 use Rattle.reading.specs.declared.letter.Line.{Line}
 use Rattle.reading.specs.Letter.{mostFields}
 use Rattle.line.specs.Writing.{smallTo}
@@ -29,21 +29,33 @@ rLine row = lineWith R (row .level ∷ row .capacity ∷ [])
 abbrev pub cLine : List ℕ → Line
 cLine numbers = lineWith C numbers
 
+-- K: the number of the car that is struck
+abbrev pub kLine : ℕ → Line
+kLine number = lineWith K (number ∷ [])
+
 -- E: number of C lines
 abbrev pub eLine : ℕ → Line
 eLine cars = lineWith E (cars ∷ [])
 
--- Behind the tables: a car is entered, by the fourteen numbers of a C line.
+-- Behind the tables: a car is entered, by the fourteen numbers of a C line, or struck, by the number of a K line.
 pub data TrainLine : Type 0 where
   enters : List ℕ → TrainLine
+  strikes : ℕ → TrainLine
 
 abbrev pub asLine : TrainLine → Line
 asLine (enters numbers) = cLine numbers
+asLine (strikes number) = kLine number
 
--- how many C lines
+-- how many C lines, and how many K lines
 abbrev pub carsIn : List TrainLine → ℕ
 carsIn [] = 0
 carsIn (enters numbers ∷ history) = suc (carsIn history)
+carsIn (strikes number ∷ history) = carsIn history
+
+abbrev pub strikesIn : List TrainLine → ℕ
+strikesIn [] = 0
+strikesIn (enters numbers ∷ history) = strikesIn history
+strikesIn (strikes number ∷ history) = suc (strikesIn history)
 
 -- A whole sheet.
 
@@ -67,18 +79,21 @@ pub record CarNumbers (numbers : List ℕ) : Type 0 where
   pub fourteen : length numbers ≡ mostFields
   pub small : smallTo numbers mostFields ≡ true
 
+-- and of a K line its one
 abbrev pub Fitting : TrainLine → Type 0
 Fitting (enters numbers) = CarNumbers numbers
+Fitting (strikes number) = number ≤ largest
 
 abbrev pub EachLine : List TrainLine → Type 0
 EachLine = Each Fitting
 
--- one to four tables, to which neither 7 nor 8 applies, and at most sixty C lines
+-- one to four tables, to which neither 7 nor 8 applies, at most 120 C lines, and at most sixty K lines
 pub record WholeSheet (tables : List Table) (history : List TrainLine) : Type 0 where
   pub some : 1 ≤ length tables
   pub four : length tables ≤ mostTables
   pub accepted : tablesVerdict tables ≡ accepts
-  pub sixty : carsIn history ≤ mostCarLines
+  pub few-cars : carsIn history ≤ mostCarLines
+  pub few-strikes : strikesIn history ≤ mostStrikes
   pub each : EachLine history
 
 -- The beginning of a sheet: tables, of which the last still lacks `owed` rows, and lines behind them.
@@ -103,7 +118,8 @@ Passed used (t ∷ u ∷ ts) owed =
 pub record Begun (tables : List Table) (owed : ℕ) (history : List TrainLine) : Type 0 where
   pub passed : Passed [] tables owed
   pub behind : 0 < length history → (owed ≡ 0) × (0 < length tables)
-  pub sixty : carsIn history ≤ mostCarLines
+  pub few-cars : carsIn history ≤ mostCarLines
+  pub few-strikes : strikesIn history ≤ mostStrikes
   pub each : EachLine history
 
 -- The line behind a beginning.
@@ -118,9 +134,9 @@ lastRows [] = []
 lastRows (t ∷ []) = t .rows
 lastRows (t ∷ u ∷ ts) = lastRows (u ∷ ts)
 
--- the letters that may come next: R exactly while rows are lacking, else T until there is a line behind the tables, and C and E once there is a table
+-- the letters that may come next: R exactly while rows are lacking, else T until there is a line behind the tables, and C, K and E once there is a table
 abbrev pub mayCome : List Table → ℕ → List TrainLine → List Letter
 mayCome tables (suc owed) history = R ∷ []
 mayCome [] zero history = T ∷ []
-mayCome (t ∷ ts) zero [] = T ∷ C ∷ E ∷ []
-mayCome (t ∷ ts) zero (line ∷ history) = C ∷ E ∷ []
+mayCome (t ∷ ts) zero [] = T ∷ C ∷ K ∷ E ∷ []
+mayCome (t ∷ ts) zero (line ∷ history) = C ∷ K ∷ E ∷ []

@@ -3,26 +3,32 @@ use Prim.Native.Nat.{ℕ, _+_, _≤_, _<_}
 use mathlib.Core.Path.{_≡_}
 use mathlib.Core.List.{List, []}
 use lib.ListN.{length, take}
-use Rattle.base.specs.Limits.{mostCarLines}
+use Rattle.base.specs.Limits.{mostCarLines, mostStrikes}
 use Rattle.table.specs.Table.{Table}
 use Rattle.grammar.specs.Text.{textOf}
-use Rattle.grammar.specs.Grammar.{carsIn, EachLine, linesBegun, Passed}
+use Rattle.grammar.specs.Grammar.{carsIn, strikesIn, EachLine, linesBegun, Passed}
 use Rattle.grammar.specs.Sheet.{State, readFrom}
 
 -- a place in a sheet of so many bytes
-pub record Sound (bytes at line owed : ℕ) (tables : List Table) (cars : ℕ) : Type 0 where
+pub record Sound (bytes at line owed : ℕ) (tables : List Table) (cars struck : ℕ) : Type 0 where
   pub within : at ≤ bytes
   pub number : line ≤ at + 1
   pub passed : Passed [] tables owed
-  pub sixty : cars ≤ mostCarLines
+  pub few-cars : cars ≤ mostCarLines
+  pub few-strikes : struck ≤ mostStrikes
 
 abbrev pub SoundState : ℕ → State → Type 0
-SoundState bytes st = Sound bytes (st .at) (st .line) (st .owed) (st .tables) (st .cars)
+SoundState bytes st = Sound bytes (st .at) (st .line) (st .owed) (st .tables) (st .cars) (st .struck)
 
--- each line behind the tables is as it must be, and the C lines among them are counted
+-- the C lines and the K lines behind the tables are counted
+pub record Counted (st : State) : Type 0 where
+  pub cars : st .cars ≡ carsIn (st .history)
+  pub struck : st .struck ≡ strikesIn (st .history)
+
+-- each line there is as it must be, and they are counted
 pub record Recorded (st : State) : Type 0 where
   pub each : EachLine (st .history)
-  pub counted : st .cars ≡ carsIn (st .history)
+  pub counted : Counted st
 
 -- the bytes before the place are the lines that were read, and these are the beginning of a sheet
 pub record LinesRead (s : List ℕ) (st : State) : Type 0 where

@@ -4,20 +4,20 @@ use mathlib.Core.Bool.{cond, _&&_, not}
 use mathlib.Core.List.{List, [], _∷_, _++_}
 use lib.ListN.{length, getD}
 use lib.Dec.{ltb, leb, eqb}
-use Rattle.base.specs.Limits.{mostTables, mostRows, mostCarLines}
+use Rattle.base.specs.Limits.{mostTables, mostRows, mostCarLines, mostStrikes}
 use Rattle.reading.specs.declared.letter.Letter.{Letter}
-use Rattle.reading.specs.declared.letter.Letter.the-variants.{Table as T, Row as R, Car as C, End as E, CarAccepted, CarRefused, Totals, GradeTotals, SheetRefused}
+use Rattle.reading.specs.declared.letter.Letter.the-variants.{Table as T, Row as R, Car as C, Strike as K, End as E, CarAccepted, CarRefused, Totals, GradeTotals, SheetRefused}
 use Rattle.reading.specs.declared.Due.{Due}
 use Rattle.reading.specs.declared.Reading.{Reading}
 use Rattle.reading.specs.declared.Reading.the-variants.{Read, Refused}
 use Rattle.reading.specs.Letter.{widthOf}
 use Rattle.reading.specs.Reading.{lineAt}
 use Rattle.table.specs.Table.{Row, rowOf, Table, tableLineBad, rowBad}
-use Rattle.grammar.specs.Grammar.{TrainLine, enters, kinds, lastRows}
+use Rattle.grammar.specs.Grammar.{TrainLine, enters, strikes, kinds, lastRows}
 
--- the longest sheet, in bytes: 39,771
+-- the longest sheet, in bytes: 48,111
 abbrev pub longest : ℕ
-longest = mostTables * (widthOf T + mostRows * widthOf R) + mostCarLines * widthOf C + widthOf E
+longest = mostTables * (widthOf T + mostRows * widthOf R) + mostCarLines * widthOf C + mostStrikes * widthOf K + widthOf E
 
 -- What reading gives: a line number and a refusal; or the tables, and the history of lines behind them.
 pub data SheetRead : Type 0 where
@@ -25,13 +25,14 @@ pub data SheetRead : Type 0 where
   whole : List Table → List TrainLine → SheetRead
 
 -- Where the reading stands: the place and the number of the line due, how many rows the last table still lacks, the tables so far, the last of
--- them with the rows that were read, how many C lines, and the history of lines behind the tables.
+-- them with the rows that were read, how many C lines, how many K lines, and the history of lines behind the tables.
 pub record State : Type 0 where
   pub at : ℕ
   pub line : ℕ
   pub owed : ℕ
   pub tables : List Table
   pub cars : ℕ
+  pub struck : ℕ
   pub history : List TrainLine
 
 -- What a line brings: one more line is due, or the reading is over where it stands.
@@ -43,23 +44,24 @@ abbrev pub refusedHere : State → ℕ → Step
 refusedHere st number = over st (refusedAt (st .line) number)
 
 -- on to the line behind one of the letter
-abbrev pub past : Letter → State → ℕ → List Table → ℕ → List TrainLine → Step
-past letter st owed tables cars history = next (record { at = st .at + widthOf letter; line = st .line + 1; owed = owed; tables = tables; cars = cars; history = history })
+abbrev pub past : Letter → State → ℕ → List Table → ℕ → ℕ → List TrainLine → Step
+past letter st owed tables cars struck history = next (record { at = st .at + widthOf letter; line = st .line + 1; owed = owed; tables = tables; cars = cars; struck = struck; history = history })
 
--- The letters that may come next: R exactly while rows are owed; else T until a C line was read, and C and E once there is a table.
+-- The letters that may come next, by how many rows are owed, and how many tables and lines behind them there are: R exactly while rows are owed; else T until a
+-- C or K line was read, and C, K and E once there is a table.
 abbrev pub dueBy : ℕ → ℕ → ℕ → Due
-dueBy owed tables cars =
+dueBy owed tables behind =
     let settled = eqb owed 0 in
-    record { table = settled && eqb cars 0; row = not settled; car = settled && ltb 0 tables; end = settled && ltb 0 tables }
+    record { table = settled && eqb behind 0; row = not settled; car = settled && ltb 0 tables; strike = settled && ltb 0 tables; end = settled && ltb 0 tables }
 
 abbrev pub dueOf : State → Due
-dueOf st = dueBy (st .owed) (length (st .tables)) (st .cars)
+dueOf st = dueBy (st .owed) (length (st .tables)) (st .cars + st .struck)
 
 -- T: 7, else a table that owes its rows.
 unfoldable pub tableLine : State → ℕ → ℕ → Step
 tableLine st kind rows =
     cond (tableLineBad (kinds (st .tables)) kind rows) (refusedHere st 7)
-    (past T st rows (st .tables ++ (record { kind = kind; rows = [] } ∷ [])) (st .cars) (st .history))
+    (past T st rows (st .tables ++ (record { kind = kind; rows = [] } ∷ [])) (st .cars) (st .struck) (st .history))
 
 -- R: 8 by the rows before it in the last table, else one more row there.
 abbrev pub withRow : List Table → Row → List Table
@@ -68,11 +70,15 @@ withRow (t ∷ []) row = record { kind = t .kind; rows = t .rows ++ (row ∷ [])
 withRow (t ∷ u ∷ ts) row = t ∷ withRow (u ∷ ts) row
 
 unfoldable pub rowLine : State → Row → Step
-rowLine st row = cond (rowBad (lastRows (st .tables)) row) (refusedHere st 8) (past R st (st .owed - 1) (withRow (st .tables) row) (st .cars) (st .history))
+rowLine st row = cond (rowBad (lastRows (st .tables)) row) (refusedHere st 8) (past R st (st .owed - 1) (withRow (st .tables) row) (st .cars) (st .struck) (st .history))
 
--- C: 9 for the sixty-first.
+-- C: 9 for the hundred and twenty-first.
 unfoldable pub carLine : State → List ℕ → Step
-carLine st numbers = cond (leb mostCarLines (st .cars)) (refusedHere st 9) (past C st (st .owed) (st .tables) (st .cars + 1) (st .history ++ (enters numbers ∷ [])))
+carLine st numbers = cond (leb mostCarLines (st .cars)) (refusedHere st 9) (past C st (st .owed) (st .tables) (st .cars + 1) (st .struck) (st .history ++ (enters numbers ∷ [])))
+
+-- K: 9 for the sixty-first.
+unfoldable pub strikeLine : State → ℕ → Step
+strikeLine st number = cond (leb mostStrikes (st .struck)) (refusedHere st 9) (past K st (st .owed) (st .tables) (st .cars) (st .struck + 1) (st .history ++ (strikes number ∷ [])))
 
 -- E: 9 where its number is not the number of C lines; 9 at the next line's number where bytes follow.
 unfoldable pub endLine : ℕ → State → ℕ → Step
@@ -81,11 +87,12 @@ endLine bytes st count =
     (over st (cond (eqb (st .at + widthOf E) bytes) (whole (st .tables) (st .history)) (refusedAt (st .line + 1) 9)))
     (refusedHere st 9)
 
--- a line by its letter and numbers; a letter of an answer may not come
+-- a line by its letter and numbers; a letter of an answer alone may not come
 abbrev pub byLetter : ℕ → State → Letter → List ℕ → Step
 byLetter bytes st T ns = tableLine st (getD ns 0 0) (getD ns 1 0)
 byLetter bytes st R ns = rowLine st (rowOf (getD ns 0 0) (getD ns 1 0))
 byLetter bytes st C ns = carLine st ns
+byLetter bytes st K ns = strikeLine st (getD ns 0 0)
 byLetter bytes st E ns = endLine bytes st (getD ns 0 0)
 byLetter bytes st CarAccepted ns = refusedHere st 4
 byLetter bytes st CarRefused ns = refusedHere st 4
@@ -115,7 +122,7 @@ abbrev pub readFrom : List ℕ → State → SheetRead
 readFrom s st = lines (length s + 1) s st
 
 abbrev pub start : State
-start = record { at = 0; line = 1; owed = 0; tables = []; cars = 0; history = [] }
+start = record { at = 0; line = 1; owed = 0; tables = []; cars = 0; struck = 0; history = [] }
 
 -- 2: the sheet is longer than the longest; the line number is 0
 unfoldable pub sheetOf : List ℕ → SheetRead

@@ -1,15 +1,16 @@
 -- How tables and the lines behind them stand in the arrays: one more row, one more table, one more line.
 use Prim.Native.Nat.{ℕ, zero, suc, _+_, _*_, _≤_, _<_}
-use mathlib.Core.Path.{_≡_, refl, ap, sym, _∙_}
+use mathlib.Core.Path.{_≡_, refl, ap, ap₂, sym, _∙_}
 use mathlib.Core.List.{List, [], _∷_, _++_, append-assoc}
 use native.Mathlib.Nat.{add-zero, zero-add}
 use native.Mathlib.Numerals.{add-one}
 use native.Mathlib.Omega.{arith}
-use lib.ListN.{length, getD, set, take, drop}
-use lib.Seq.{drop-cons, getD-set-same, getD-set-other, take-at, drop-at, take-add, take-take, take-append-le, take-all, length-take-le, paste}
+use lib.ListN.{length, getD, set, take, drop, length-append}
+use lib.Seq.{append-snoc, set-split, drop-drop, drop-cons, getD-set-same, getD-set-other, take-at, drop-at, take-add, take-take, take-append-le, take-all, length-take-le, paste}
 use Rattle.base.specs.Buffer.{put}
 use Rattle.base.proofs.Buffer.{length-put}
 use Rattle.base.specs.Limits.{mostRows}
+use Rattle.reading.specs.Letter.{mostFields}
 use Rattle.table.specs.Table.{Row, rowOf, Table}
 use Rattle.table.specs.Layout.{rowsFrom, tableAt, tablesFrom}
 use Rattle.table.proofs.Arrays.{rows-last}
@@ -133,9 +134,9 @@ length-history f i zero = refl
 length-history f i (suc n) = ap suc (length-history f (i + 1) n)
 
 -- the letters due, by the numbers that the code holds
-pub due-held : (h : Reader) (l c f : List ℕ) → dueBy (h .owed) (h .directory .count) (h .cars) ≡ dueOf (stateIn h l c f)
+pub due-held : (h : Reader) (l c f : List ℕ) → dueBy (h .owed) (h .directory .count) (h .cars + h .struck) ≡ dueOf (stateIn h l c f)
 due-held h l c f =
-    sym (ap (λ (n : ℕ). dueBy (h .owed) n (h .cars)) (length-tables (h .directory .types) (h .directory .rows) l c 0 (h .directory .count)))
+    sym (ap (λ (n : ℕ). dueBy (h .owed) n (h .cars + h .struck)) (length-tables (h .directory .types) (h .directory .rows) l c 0 (h .directory .count)))
 
 history-same : (f f′ : List ℕ) (i n : ℕ) → ((j : ℕ) → j < i + n → lineNumbers f′ j ≡ lineNumbers f j) → historyFrom f′ i n ≡ historyFrom f i n
 history-same f f′ i zero h = refl
@@ -158,11 +159,28 @@ part-same l l′ a m h h′ e =
     ∙ drop-at (take a l) (take m (drop a l)) a (length-take-le a l h)
 
 -- the numbers of a line that were copied, one by one
-pub copied : (f : List ℕ) (at : ℕ) (ns : List ℕ) (j : ℕ) → length ns ≡ linePlaces → j ≡ linePlaces → paste f at ns j ≡ put f at ns
+pub copied : (f : List ℕ) (at : ℕ) (ns : List ℕ) (j : ℕ) → length ns ≡ mostFields → j ≡ mostFields → paste f at ns j ≡ put f at ns
 copied f at ns j n e =
     ap (paste f at ns) e
-    ∙ ap (λ (x : List ℕ). take at f ++ x ++ drop (at + linePlaces) f) (take-all linePlaces ns (omega arith))
+    ∙ ap (λ (x : List ℕ). take at f ++ x ++ drop (at + mostFields) f) (take-all mostFields ns (omega arith))
     ∙ ap (λ (i : ℕ). take at f ++ ns ++ drop (at + i) f) (sym n)
+
+-- a number stored, then others behind it
+pub put-cons : (f : List ℕ) (at a : ℕ) (ns : List ℕ) → at < length f → put (set f at a) (at + 1) ns ≡ put f at (a ∷ ns)
+put-cons f at a ns h =
+    let head : List ℕ = take at f ++ (a ∷ []) in
+    let n : length head ≡ at + 1 = length-append (take at f) (a ∷ []) ∙ ap (λ (i : ℕ). i + 1) (length-take-le at f (omega arith)) in
+    let e : set f at a ≡ head ++ drop (suc at) f = set-split f at a h ∙ sym (append-snoc (take at f) a (drop (suc at) f)) in
+    let k : suc at + length ns ≡ at + suc (length ns) = omega arith in
+    let d : drop (at + 1 + length ns) (set f at a) ≡ drop (at + suc (length ns)) f =
+    sym (drop-drop (length ns) (at + 1) (set f at a))
+    ∙ ap (λ (x : List ℕ). drop (length ns) (drop (at + 1) x)) e
+    ∙ ap (drop (length ns)) (drop-at head (drop (suc at) f) (at + 1) n)
+    ∙ drop-drop (length ns) (suc at) f
+    ∙ ap (λ (i : ℕ). drop i f) k in
+    ap (λ (x : List ℕ). take (at + 1) x ++ ns ++ drop (at + 1 + length ns) (set f at a)) e
+    ∙ ap₂ (λ (x y : List ℕ). x ++ ns ++ y) (take-at head (drop (suc at) f) (at + 1) n) d
+    ∙ ap (λ (x : List ℕ). x ++ drop (at + suc (length ns)) f) (append-snoc (take at f) a ns)
 
 -- one more line, stored behind those that there are
 module _ (f ns : List ℕ) (n : ℕ) (whole : length ns ≡ linePlaces) (room : linePlaces * n + linePlaces ≤ length f) where

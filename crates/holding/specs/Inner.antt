@@ -3,7 +3,7 @@ use Prim.Native.Nat.{ℕ, _+_, _-_, _≤_, _<_}
 use mathlib.Core.Path.{_≡_}
 use mathlib.Core.List.{List}
 use lib.ListN.{length, getD, set}
-use Rattle.base.specs.Limits.{mostTables, mostRows}
+use Rattle.base.specs.Limits.{mostTables, mostRows, mostCarLines, mostStrikes}
 use Rattle.table.specs.declared.Directory.{Directory}
 use Rattle.table.specs.Layout.{tablesOf}
 use Rattle.grammar.specs.Sheet.{longest, State, Step, next, over}
@@ -17,7 +17,7 @@ use Rattle.holding.specs.Layout.{historyOf, outcomeTold}
 -- what the code holds while the reading goes on
 abbrev pub stateIn : Reader → List ℕ → List ℕ → List ℕ → State
 stateIn r levels capacities fields =
-    record { at = r .at; line = r .line; owed = r .owed; tables = tablesOf (r .directory) levels capacities; cars = r .cars; history = historyOf fields (r .cars) }
+    record { at = r .at; line = r .line; owed = r .owed; tables = tablesOf (r .directory) levels capacities; cars = r .cars; struck = r .struck; history = historyOf fields (r .cars + r .struck) }
 
 abbrev pub stepBy : Progress → State → Step
 stepBy Next st = next st
@@ -38,10 +38,12 @@ pub record Bounds (h : Reader) : Type 0 where
   pub place : h .at ≤ longest
   pub number : h .line ≤ longest + 1
   pub few : h .directory .count ≤ mostTables
+  pub few-cars : h .cars ≤ mostCarLines
+  pub few-strikes : h .struck ≤ mostStrikes
   pub owing : 0 < h .owed → Owing (h .owed) (h .directory)
 
 abbrev pub SoundReader : ℕ → Reader → List ℕ → List ℕ → Type 0
-SoundReader bytes h levels capacities = Sound bytes (h .at) (h .line) (h .owed) (tablesOf (h .directory) levels capacities) (h .cars)
+SoundReader bytes h levels capacities = Sound bytes (h .at) (h .line) (h .owed) (tablesOf (h .directory) levels capacities) (h .cars) (h .struck)
 
 -- h past some rows of table k, of which `rows` are read now
 abbrev pub readerAt : Reader → ℕ → ℕ → ℕ → ℕ → ℕ → Reader
@@ -51,6 +53,7 @@ readerAt h at line owed k rows =
       line = line;
       owed = owed;
       cars = h .cars;
+      struck = h .struck;
       directory = record { count = h .directory .count; types = h .directory .types; rows = set (h .directory .rows) k rows };
     }
 

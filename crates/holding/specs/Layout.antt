@@ -1,25 +1,34 @@
--- How a sheet that is read lies in arrays: its tables in a directory and two arrays (`table`), line i behind the tables from 14 i on in a third.
+-- How a sheet that is read lies in arrays: its tables in a directory and two arrays (`table`), line i behind the tables from 15 i on in a third.
 use Prim.Native.Nat.{ℕ, zero, suc, _+_, _*_}
+use mathlib.Core.Bool.{cond}
 use mathlib.Core.List.{List, [], _∷_}
-use lib.ListN.{take, drop}
-use Rattle.base.specs.Limits.{mostCarLines}
+use lib.ListN.{getD, take, drop}
+use lib.Dec.{eqb}
+use Rattle.base.specs.Limits.{mostCarLines, mostStrikes}
 use Rattle.reading.specs.Letter.{mostFields}
 use Rattle.table.specs.Table.{Table}
-use Rattle.grammar.specs.Grammar.{TrainLine, enters}
+use Rattle.grammar.specs.Grammar.{TrainLine, enters, strikes}
 use Rattle.grammar.specs.Sheet.{SheetRead, refusedAt, whole}
 use Rattle.holding.specs.declared.Outcome.{Outcome}
 use Rattle.holding.specs.declared.Outcome.the-variants.{Whole, RefusedAt}
 
--- how many numbers stand for a line, and for all lines behind the tables at most
+-- how many numbers stand for a line, its letter first, and for all lines behind the tables at most
 abbrev pub linePlaces : ℕ
-linePlaces = mostFields
+linePlaces = 1 + mostFields
 
 abbrev pub historyNumbers : ℕ
-historyNumbers = mostCarLines * linePlaces
+historyNumbers = (mostCarLines + mostStrikes) * linePlaces
 
--- the line that its numbers stand for
+-- what stands for the letter of a C line, and of a K line, for which any other number would do too
+abbrev pub carMark : ℕ
+carMark = 0
+
+abbrev pub strikeMark : ℕ
+strikeMark = 1
+
+-- the line that its numbers stand for: all behind the letter are a C line's, the first of them is a K line's
 abbrev pub lineIn : List ℕ → TrainLine
-lineIn numbers = enters numbers
+lineIn numbers = cond (eqb (getD numbers 0 0) carMark) (enters (drop 1 numbers)) (strikes (getD numbers 1 0))
 
 -- the numbers of line i
 abbrev pub lineNumbers : List ℕ → ℕ → List ℕ

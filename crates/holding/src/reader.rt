@@ -10,13 +10,14 @@ use base::MOST_TABLES;
 use reading::Due;
 use table::Directory;
 
-// The place and the number of the line due, how many rows the last table still lacks, and the cars and tables
-// so far. The directory counts the rows that were read.
+// The place and the number of the line due, how many rows the last table still lacks, and how many C lines, K lines
+// and tables there are so far. The directory counts the rows that were read.
 pub struct Reader {
     pub at: usize,
     pub line: u32,
     pub owed: u32,
     pub cars: usize,
+    pub struck: usize,
     pub directory: Directory,
 }
 
@@ -40,6 +41,7 @@ pub fn started() -> Reader
         line: 1,
         owed: 0,
         cars: 0,
+        struck: 0,
         directory: Directory {
             count: 0,
             types: [0u32; MOST_TABLES],
@@ -48,22 +50,24 @@ pub fn started() -> Reader
     }
 }
 
-// The letters that may come next.
-pub fn due_of(owed: u32, tables: u32, cars: usize) -> Due
-    ensures { λ r. ⌜ r ≡ dueBy owed tables cars ⌝ }
+// The letters that may come next, by the rows owed, the tables, and the lines behind them.
+pub fn due_of(owed: u32, tables: u32, behind: usize) -> Due
+    ensures { λ r. ⌜ r ≡ dueBy owed tables behind ⌝ }
 {
     if owed != 0 {
         return Due {
             table: false,
             row: true,
             car: false,
+            strike: false,
             end: false,
         };
     }
     Due {
-        table: cars == 0,
+        table: behind == 0,
         row: false,
         car: 0 < tables,
+        strike: 0 < tables,
         end: 0 < tables,
     }
 }
@@ -80,6 +84,7 @@ pub fn reader_at(reader: Reader, at: usize, line: u32, owed: u32, k: usize, rows
         line,
         owed,
         cars: reader.cars,
+        struck: reader.struck,
         directory,
     }
 }

@@ -23,6 +23,7 @@ pub fn read_line(s: &[u8]) -> LineRead
             table: true,
             row: true,
             car: true,
+            strike: true,
             end: true,
         },
     )

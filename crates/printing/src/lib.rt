@@ -10,8 +10,9 @@ ghost use Rattle.reading.specs.Letter.{widthOf};
 ghost use Rattle.line.specs.Writing.{lineOf, writable};
 ghost use Rattle.car.specs.Car.{carTold};
 ghost use Rattle.summing.specs.Inner.{Low};
+ghost use Rattle.train_strike.specs.Told.{strikeTold};
 ghost use Rattle.grammar.specs.Text.{textOf};
-ghost use Rattle.answers.specs.Listing.{answerLine, totalsLine, gradeLine, totalsLines, sheetRefusedLine, leastBuffer};
+ghost use Rattle.answers.specs.Listing.{answerLine, struckLine, totalsLine, gradeLine, totalsLines, sheetRefusedLine, leastBuffer};
 ghost use Rattle.printing.specs.Inner.{Closing};
 use base::GRADES;
 use car::CarAnswer;
@@ -21,6 +22,7 @@ use reading::Line;
 use reading::MOST_FIELDS;
 use summing::Sums;
 use summing::Totals;
+use train_strike::StrikeAnswer;
 
 // The A or X line of the car of this number.
 pub fn answer_line(number: u32, answer: CarAnswer) -> Line
@@ -42,6 +44,30 @@ pub fn answer_line(number: u32, answer: CarAnswer) -> Line
         }
         CarAnswer::Refused(n) => {
             numbers[0] = number;
+            numbers[1] = n;
+            Line {
+                letter: Letter::CarRefused,
+                numbers,
+            }
+        }
+    }
+}
+
+// The K or X line of a strike of the number that was typed.
+pub fn struck_line(typed: u32, answer: StrikeAnswer) -> Line
+    ensures { λ r. ⌜ r ≡ struckLine typed (strikeTold answer) ⌝ }
+{
+    let mut numbers = [0u32; MOST_FIELDS];
+    match answer {
+        StrikeAnswer::Struck(n) => {
+            numbers[0] = n;
+            Line {
+                letter: Letter::Strike,
+                numbers,
+            }
+        }
+        StrikeAnswer::Refused(n) => {
+            numbers[0] = typed;
             numbers[1] = n;
             Line {
                 letter: Letter::CarRefused,

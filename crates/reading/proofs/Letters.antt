@@ -11,7 +11,7 @@ use denote.Enum.Declared.{Choice, Record}
 use Rattle.base.specs.Lists.{Each}
 use Rattle.base.proofs.Choice.{both, never}
 use Rattle.reading.specs.declared.letter.Letter.{Letter}
-use Rattle.reading.specs.declared.letter.Letter.the-variants.{Table, Row, Car, End, CarAccepted, CarRefused, Totals, GradeTotals, SheetRefused}
+use Rattle.reading.specs.declared.letter.Letter.the-variants.{Table, Row, Car, Strike, End, CarAccepted, CarRefused, Totals, GradeTotals, SheetRefused}
 use Rattle.reading.specs.declared.Due.{Due}
 use Rattle.reading.specs.declared.Found.the-variants.{Is, Nothing}
 use Rattle.reading.specs.Letter.{byteOf, ofSheet, countOf, mostFields}
@@ -81,6 +81,7 @@ unfolding letterOf
 by-byte Table = refl
 by-byte Row = refl
 by-byte Car = refl
+by-byte Strike = refl
 by-byte End = refl
 by-byte CarAccepted = refl
 by-byte CarRefused = refl

@@ -55,7 +55,7 @@ row-some s at h = sym (ap (λ (x : LineRead). rowBy (x .reading) (x .numbers)) (
 
 -- a line that is read where only a row may come passes these tests
 only-row : (b : ℕ) (l : Letter) → letterOf b rowOnly ≡ Is l → l ≡ Row
-only-row b l = found (λ m. m ≡ Row) b l rowOnly ((λ e d. never (cc)), ((λ e d. refl), ((λ e d. never (cc)), ((λ e d. never (cc)), tt))))
+only-row b l = found (λ m. m ≡ Row) b l rowOnly ((λ e d. never (cc)), ((λ e d. refl), ((λ e d. never (cc)), ((λ e d. never (cc)), ((λ e d. never (cc)), tt)))))
 
 row-bytes : (s : List ℕ) (at : ℕ) (l : Letter) → (lineAt s at rowOnly) .reading ≡ Read l → RowBytes s at
 row-bytes s at l z =

@@ -1,14 +1,15 @@
--- The letters: T, R, C, E of a sheet and A, X, S, G, Z of an answer, with their bytes and the number of fields of their lines.
+-- The letters: T, R, C, K, E of a sheet and A, X, S, G, Z of an answer, which has K lines too, with their bytes and the number of fields of their lines.
 use Prim.Native.Nat.{ℕ, _+_, _*_}
 use mathlib.Core.Bool.{Bool, true, false}
 use Rattle.field.specs.Field.{columns}
 use Rattle.reading.specs.declared.letter.Letter.{Letter}
-use Rattle.reading.specs.declared.letter.Letter.the-variants.{Table, Row, Car, End, CarAccepted, CarRefused, Totals, GradeTotals, SheetRefused}
+use Rattle.reading.specs.declared.letter.Letter.the-variants.{Table, Row, Car, Strike, End, CarAccepted, CarRefused, Totals, GradeTotals, SheetRefused}
 
 abbrev pub byteOf : Letter → ℕ
 byteOf Table = 84
 byteOf Row = 82
 byteOf Car = 67
+byteOf Strike = 75
 byteOf End = 69
 byteOf CarAccepted = 65
 byteOf CarRefused = 88
@@ -16,11 +17,12 @@ byteOf Totals = 83
 byteOf GradeTotals = 71
 byteOf SheetRefused = 90
 
--- T, R, C and E are a sheet's, the others an answer's
+-- T, R, C, K and E are a sheet's, the others an answer's alone
 abbrev pub ofSheet : Letter → Bool
 ofSheet Table = true
 ofSheet Row = true
 ofSheet Car = true
+ofSheet Strike = true
 ofSheet End = true
 ofSheet CarAccepted = false
 ofSheet CarRefused = false
@@ -33,6 +35,7 @@ abbrev pub countOf : Letter → ℕ
 countOf Table = 2
 countOf Row = 2
 countOf Car = 14
+countOf Strike = 1
 countOf End = 1
 countOf CarAccepted = 6
 countOf CarRefused = 2

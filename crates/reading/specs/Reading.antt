@@ -8,7 +8,7 @@ use Rattle.field.specs.declared.Field.{Field}
 use Rattle.field.specs.declared.Field.the-variants.{Number, NotNumber}
 use Rattle.field.specs.Field.{columns, fieldAt}
 use Rattle.reading.specs.declared.letter.Letter.{Letter}
-use Rattle.reading.specs.declared.letter.Letter.the-variants.{Table, Row, Car, End}
+use Rattle.reading.specs.declared.letter.Letter.the-variants.{Table, Row, Car, Strike, End}
 use Rattle.reading.specs.declared.Due.{Due}
 use Rattle.reading.specs.declared.Found.{Found}
 use Rattle.reading.specs.declared.Found.the-variants.{Is, Nothing}
@@ -34,6 +34,7 @@ sheetLetters due =
     candidate Table (due .table)
     ∷ candidate Row (due .row)
     ∷ candidate Car (due .car)
+    ∷ candidate Strike (due .strike)
     ∷ candidate End (due .end)
     ∷ []
 
@@ -110,11 +111,11 @@ lineAt s at due = cond (ltb (feedAt s at) (length s)) (lineBy s at (feedAt s at)
 
 -- where any letter of a sheet may come
 abbrev pub any : Due
-any = record { table = true; row = true; car = true; end = true }
+any = record { table = true; row = true; car = true; strike = true; end = true }
 
 -- where only a row may come, and what an R line with the numbers a and b is read as
 abbrev pub rowOnly : Due
-rowOnly = record { table = false; row = true; car = false; end = false }
+rowOnly = record { table = false; row = true; car = false; strike = false; end = false }
 
 abbrev pub rowRead : ℕ → ℕ → LineRead
 rowRead a b = record { reading = Read Row; numbers = filled (a ∷ b ∷ []) 2 }

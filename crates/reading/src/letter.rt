@@ -1,10 +1,11 @@
 // The letters of a sheet and of an answer, and a line's value.
 
-// T, R, C, E of a sheet; A, X, S, G, Z of an answer.
+// T, R, C, K, E of a sheet; A, X, S, G, Z of an answer, which has K lines too.
 pub enum Letter {
     Table,
     Row,
     Car,
+    Strike,
     End,
     CarAccepted,
     CarRefused,

@@ -11,6 +11,7 @@ pub struct Due {
     pub table: bool,
     pub row: bool,
     pub car: bool,
+    pub strike: bool,
     pub end: bool,
 }
 

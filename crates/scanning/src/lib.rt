@@ -24,6 +24,7 @@ pub use widths::END_BYTES;
 pub use widths::GRADE_TOTALS_BYTES;
 pub use widths::ROW_BYTES;
 pub use widths::SHEET_REFUSED_BYTES;
+pub use widths::STRIKE_BYTES;
 pub use widths::TABLE_BYTES;
 pub use widths::TOTALS_BYTES;
 pub use widths::byte_of;
@@ -51,6 +52,9 @@ fn letter_of(b: u8, due: Due) -> Found
     }
     if b == b'C' {
         return letter_if(due.car, Letter::Car);
+    }
+    if b == b'K' {
+        return letter_if(due.strike, Letter::Strike);
     }
     if b == b'E' {
         return letter_if(due.end, Letter::End);

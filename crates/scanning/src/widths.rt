@@ -12,6 +12,8 @@ const ROW_FIELDS: usize = 2;
 
 const CAR_FIELDS: usize = 14;
 
+const STRIKE_FIELDS: usize = 1;
+
 const END_FIELDS: usize = 1;
 
 const CAR_ACCEPTED_FIELDS: usize = 6;
@@ -30,6 +32,8 @@ pub const TABLE_BYTES: usize = 2 + COLUMNS * TABLE_FIELDS;
 pub const ROW_BYTES: usize = 2 + COLUMNS * ROW_FIELDS;
 
 pub const CAR_BYTES: usize = 2 + COLUMNS * CAR_FIELDS;
+
+pub const STRIKE_BYTES: usize = 2 + COLUMNS * STRIKE_FIELDS;
 
 pub const END_BYTES: usize = 2 + COLUMNS * END_FIELDS;
 
@@ -51,6 +55,7 @@ pub fn byte_of(letter: Letter) -> u8
         Letter::Table => b'T',
         Letter::Row => b'R',
         Letter::Car => b'C',
+        Letter::Strike => b'K',
         Letter::End => b'E',
         Letter::CarAccepted => b'A',
         Letter::CarRefused => b'X',
@@ -68,6 +73,7 @@ pub fn count_of(letter: Letter) -> usize
         Letter::Table => TABLE_FIELDS,
         Letter::Row => ROW_FIELDS,
         Letter::Car => CAR_FIELDS,
+        Letter::Strike => STRIKE_FIELDS,
         Letter::End => END_FIELDS,
         Letter::CarAccepted => CAR_ACCEPTED_FIELDS,
         Letter::CarRefused => CAR_REFUSED_FIELDS,

@@ -36,15 +36,15 @@ join s a b c p q = record { sound = q .sound; further = omega (arith, p .further
 -- a row that is as it should be, where one is owed
 row-on : (s : List ℕ) (st : State) (a b : ℕ) (ts : List Table) → SoundState (length s) st → 0 < st .owed → lineAt s (st .at) rowOnly ≡ rowRead a b
     → rowBad (lastRows (st .tables)) (rowOf a b) ≡ false → ts ≡ withRow (st .tables) (rowOf a b)
-    → Onward s st (record { at = st .at + widthOf R; line = st .line + 1; owed = st .owed - 1; tables = ts; cars = st .cars; history = st .history })
+    → Onward s st (record { at = st .at + widthOf R; line = st .line + 1; owed = st .owed - 1; tables = ts; cars = st .cars; struck = st .struck; history = st .history })
 unfolding stepOf
 row-on s st a b ts h o el g et =
     let due : dueOf st ≡ rowOnly = simp (ne-eqb (st .owed) 0 (λ z. omega arith)) in
     let er : lineAt s (st .at) (dueOf st) ≡ rowRead a b = ap (λ (x : Due). lineAt s (st .at) x) due ∙ el in
-    let e : past R st (st .owed - 1) ts (st .cars) (st .history) ≡ stepOf s st =
+    let e : past R st (st .owed - 1) ts (st .cars) (st .struck) (st .history) ≡ stepOf s st =
     row-taken st (rowOf a b) ts g et ∙ sym (ap (λ (r : LineRead). byReading (length s) st (r .reading) (r .numbers)) er) in
-    let w = went-on s st (past R st (st .owed - 1) ts (st .cars) (st .history)) e h _ refl in
-    record { sound = w .0; further = omega arith; same = w .2; read = λ t. read-next s st (past R st (st .owed - 1) ts (st .cars) (st .history)) e h t _ refl }
+    let w = went-on s st (past R st (st .owed - 1) ts (st .cars) (st .struck) (st .history)) e h _ refl in
+    record { sound = w .0; further = omega arith; same = w .2; read = λ t. read-next s st (past R st (st .owed - 1) ts (st .cars) (st .struck) (st .history)) e h t _ refl }
 
 -- What is known where one more row of table k is due: its rows so far, the row before, and that the reading only went on.
 pub record Taken (s : List ℕ) (h : Reader) (l₀ c₀ : List ℕ) (k : ℕ) (l c : List ℕ) (rows level capacity at line owed : ℕ) : Type 0 where

@@ -1,4 +1,4 @@
-// A whole sheet: one to four tables, each a T line and its R lines, then up to sixty C lines, then E.
+// A whole sheet: one to four tables, each a T line and its R lines, then up to 120 C lines and sixty K lines, then E.
 ghost use mathlib.Core.Path.{_≡_};
 ghost use lib.ListN.{length};
 ghost use Rattle.grammar.specs.Sheet.{sheetOf};
@@ -7,6 +7,7 @@ ghost use Rattle.grammar.specs.ByGrammar.{ReadByGrammar};
 ghost use Rattle.sheet.specs.Layout.{readIn, Held};
 use base::MOST_CAR_LINES;
 use base::MOST_ROWS;
+use base::MOST_STRIKES;
 use base::MOST_TABLES;
 use holding::HISTORY_NUMBERS;
 use holding::Outcome;
@@ -14,22 +15,25 @@ use holding::Progress;
 use scanning::CAR_BYTES;
 use scanning::END_BYTES;
 use scanning::ROW_BYTES;
+use scanning::STRIKE_BYTES;
 use scanning::TABLE_BYTES;
 use table::Directory;
 
 mod rows; // rows.rt: the rows of a table, taken one after another
 
-// The longest sheet, in bytes: four tables of 400 rows, sixty C lines, and the E line.
+// The longest sheet, in bytes: four tables of 400 rows, 120 C lines, sixty K lines, and the E line.
 pub const LONGEST_SHEET: usize = MOST_TABLES * (TABLE_BYTES + MOST_ROWS * ROW_BYTES)
     + MOST_CAR_LINES * CAR_BYTES
+    + MOST_STRIKES * STRIKE_BYTES
     + END_BYTES;
 
 // What reading a sheet gives, beside the arrays that are lent: the rows of its tables stand there as the
-// directory says, line i behind the tables from 14 i on. Beside a refusal they are what was read before it.
+// directory says, line i behind the tables, of so many C and K lines, from 15 i on. Beside a refusal they are what was read before it.
 pub struct Contents {
     pub outcome: Outcome,
     pub directory: Directory,
     pub cars: usize,
+    pub struck: usize,
 }
 
 // Reads a whole sheet into the arrays that are lent; or gives the first refusal of 2 to 9 that applies, with
@@ -54,6 +58,7 @@ pub fn read_sheet(
             outcome: Outcome::RefusedAt(0, 2),
             directory,
             cars: 0,
+            struck: 0,
         };
     }
     loop {
@@ -69,6 +74,7 @@ pub fn read_sheet(
                     outcome,
                     directory,
                     cars: reader.cars,
+                    struck: reader.struck,
                 };
             }
         }

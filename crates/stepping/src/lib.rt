@@ -2,16 +2,20 @@
 ghost use mathlib.Core.Path.{_≡_};
 ghost use mathlib.Core.List.{List};
 ghost use Prim.Native.Nat.{ℕ, _<_};
+ghost use lib.ListN.{getD};
 ghost use Rattle.table.specs.Table.{rowOf};
-ghost use Rattle.grammar.specs.Sheet.{tableLine, rowLine, carLine, endLine, stepOf};
+ghost use Rattle.grammar.specs.Sheet.{tableLine, rowLine, carLine, strikeLine, endLine, stepOf};
 ghost use Rattle.holding.specs.Inner.{stateIn, stepIn, Owing, Bounds};
 use base::MOST_CAR_LINES;
 use base::MOST_ROWS;
+use base::MOST_STRIKES;
+use holding::CAR_MARK;
 use holding::HISTORY_NUMBERS;
 use holding::LINE_PLACES;
 use holding::Outcome;
 use holding::Progress;
 use holding::Reader;
+use holding::STRIKE_MARK;
 use holding::Stepped;
 use holding::due_of;
 use holding::refused_here;
@@ -23,6 +27,7 @@ use reading::Reading;
 use scanning::CAR_BYTES;
 use scanning::END_BYTES;
 use scanning::ROW_BYTES;
+use scanning::STRIKE_BYTES;
 use scanning::TABLE_BYTES;
 
 // A T line: 7, or one more table.
@@ -46,6 +51,7 @@ fn table_line(reader: Reader, kind: u32, rows: u32) -> Stepped
             line: reader.line + 1,
             owed: rows,
             cars: reader.cars,
+            struck: reader.struck,
             directory,
         },
     }
@@ -78,12 +84,13 @@ fn row_line(
             line: reader.line + 1,
             owed: reader.owed - 1,
             cars: reader.cars,
+            struck: reader.struck,
             directory,
         },
     }
 }
 
-// A C line: 9 for the sixty-first, or one more car.
+// A C line: 9 for the hundred and twenty-first, or one more car.
 fn car_line(
     reader: Reader,
     fields: &mut [u32; HISTORY_NUMBERS],
@@ -93,11 +100,12 @@ fn car_line(
     ensures { λ r. ⌜ ((l c : List ℕ) → stepIn r l c (now (fields .exit)) ≡ carLine (stateIn reader l c (now (fields .entry))) numbers) ⌝ }
 {
     let cars = reader.cars;
+    let struck = reader.struck;
     let directory = reader.directory;
     if MOST_CAR_LINES <= cars {
         return refused_here(reader, 9);
     }
-    store_line(fields, LINE_PLACES * cars, numbers);
+    store_line(fields, LINE_PLACES * (cars + struck), CAR_MARK, numbers);
     Stepped {
         progress: Progress::Next,
         reader: Reader {
@@ -105,6 +113,36 @@ fn car_line(
             line: reader.line + 1,
             owed: reader.owed,
             cars: cars + 1,
+            struck,
+            directory,
+        },
+    }
+}
+
+// A K line: 9 for the sixty-first, or one more strike, of the first of its numbers.
+fn strike_line(
+    reader: Reader,
+    fields: &mut [u32; HISTORY_NUMBERS],
+    numbers: [u32; MOST_FIELDS],
+) -> Stepped
+    requires { ⌜ Bounds reader ⌝ }
+    ensures { λ r. ⌜ ((l c : List ℕ) → stepIn r l c (now (fields .exit)) ≡ strikeLine (stateIn reader l c (now (fields .entry))) (getD numbers 0 0)) ⌝ }
+{
+    let cars = reader.cars;
+    let struck = reader.struck;
+    let directory = reader.directory;
+    if MOST_STRIKES <= struck {
+        return refused_here(reader, 9);
+    }
+    store_line(fields, LINE_PLACES * (cars + struck), STRIKE_MARK, numbers);
+    Stepped {
+        progress: Progress::Next,
+        reader: Reader {
+            at: reader.at + STRIKE_BYTES,
+            line: reader.line + 1,
+            owed: reader.owed,
+            cars,
+            struck: struck + 1,
             directory,
         },
     }
@@ -142,7 +180,7 @@ pub fn read_step(
     ensures { λ r. ⌜ stepIn r (now (levels .exit)) (now (capacities .exit)) (now (fields .exit)) ≡ stepOf (now (s .entry)) (stateIn reader (now (levels .entry)) (now (capacities .entry)) (now (fields .entry))) ⌝ }
 {
     let d = reader.directory;
-    let due = due_of(reader.owed, d.count, reader.cars);
+    let due = due_of(reader.owed, d.count, reader.cars + reader.struck);
     let line = scanning::read_line_at(s, reader.at, due);
     let numbers = line.numbers;
     let reading = line.reading;
@@ -151,8 +189,9 @@ pub fn read_step(
             Letter::Table => table_line(reader, numbers[0], numbers[1]),
             Letter::Row => row_line(reader, levels, capacities, numbers[0], numbers[1]),
             Letter::Car => car_line(reader, fields, numbers),
+            Letter::Strike => strike_line(reader, fields, numbers),
             Letter::End => end_line(s.len(), reader, numbers[0]),
-            // a letter of an answer
+            // a letter of an answer alone
             _ => refused_here(reader, 4),
         },
         Reading::Refused(number) => refused_here(reader, number),

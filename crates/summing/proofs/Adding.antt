@@ -1,24 +1,26 @@
 -- Laws of sums: one car more among others, the grades together, and the tests that the code makes of them.
-use Prim.Native.Nat.{ℕ, zero, suc, _+_, _-_, _≤_, _<_}
-use mathlib.Core.Path.{_≡_, refl, ap, sym, _∙_}
+use Prim.Native.Nat.{ℕ, zero, suc, _+_, _-_, _*_, _≤_, _<_}
+use mathlib.Core.Path.{_≡_, refl, ap, ap₂, sym, _∙_}
 use mathlib.Core.Logic.{⊎-elim}
-use mathlib.Core.Bool.{Bool, true, false, cond, _&&_}
+use mathlib.Core.Bool.{Bool, true, false, cond, not, _&&_, true≢false}
 use mathlib.Core.List.{List, [], _∷_, _++_, append-nil}
+use native.Mathlib.Numerals.{add-one}
 use native.Mathlib.Omega.{arith}
 use lib.Dec.{eqb}
-use lib.ListN.{length, getD, set, length-append}
-use borrow.Author.Tests.{eq-eqb, ne-eqb, eqb-true}
-use Rattle.base.specs.Limits.{gradeCount}
+use lib.ListN.{length, getD, set, drop, length-append, drop-of-length-le}
+use lib.Seq.{drop-cons}
+use borrow.Author.Tests.{eq-eqb, ne-eqb, eqb-true, not-true, not-false}
+use Rattle.base.specs.Limits.{mostCars, gradeCount}
 use Rattle.base.specs.Lists.{Each}
 use Rattle.base.specs.Total.{total}
-use Rattle.base.proofs.Choice.{same, both-hold}
+use Rattle.base.proofs.Choice.{below, same, both-hold, cond-either}
 use Rattle.base.proofs.Lists.{selected-append}
 use Rattle.base.proofs.Total.{total-append, total-same, total-selected, part-most}
 use Rattle.car.specs.Measured.{gross, net}
 use Rattle.summing.specs.declared.Totals.{Totals}
 use Rattle.summing.specs.declared.Sums.{Sums}
-use Rattle.summing.specs.Sums.{Shown, shownMass, ofGrade, totalsOf, sumsOf, totalsFrom, noTotals, noSums, totalIn, gradeTotals, together, sameTotals, withCar, gradeChanged, sumsWith}
-use Rattle.summing.specs.Inner.{Low, Sound}
+use Rattle.summing.specs.Sums.{Shown, shownMass, ofGrade, totalsOf, sumsOf, totalsFrom, noTotals, noSums, totalIn, gradeTotals, together, sameTotals, sameEach, sameSums, withCar, withoutCar, gradeChanged, sumsWith, sumsWithout}
+use Rattle.summing.specs.Inner.{Low, Sound, Small, Room}
 
 same-parts : {a b c x y z : ℕ} → a ≡ x → b ≡ y → c ≡ z → totalsFrom a b c ≡ totalsFrom x y z
 same-parts p q r = rw (p, q, r)
@@ -55,6 +57,30 @@ sums-more k s l = rw (totals-more k s l, grade-more k s l 1, grade-more k s l 2,
 -- behind the others
 pub sums-snoc : (ss : List Shown) (s : Shown) → sumsOf (ss ++ (s ∷ [])) ≡ sumsWith (sumsOf ss) s
 sums-snoc ss s = sums-more ss s [] ∙ ap (λ (x : List Shown). sumsWith (sumsOf x) s) (append-nil ss)
+
+-- A car taken out again: the sums are those of the others.
+
+module _ (s : Shown) where
+  taken-back : (t : Totals) → withoutCar s (withCar s t) ≡ t
+  taken-back t =
+      let a : t .accepted + 1 - 1 ≡ t .accepted = omega arith in
+      let g : t .gross + s .gross - s .gross ≡ t .gross = omega arith in
+      let n : t .net + s .net - s .net ≡ t .net = omega arith in
+      rw (a, g, n)
+
+  grades-back : (g : ℕ) (ts : List Totals) → gradeChanged (withoutCar s) (s .grade) g (gradeChanged (withCar s) (s .grade) g ts) ≡ ts
+  grades-back g [] = refl
+  grades-back g (t ∷ ts) = ap₂ (λ (x : Totals) (l : List Totals). x ∷ l) (by-test (eqb (s .grade) g)) (grades-back (g + 1) ts)
+    where
+      by-test : (b : Bool) → cond b (withoutCar s (cond b (withCar s t) t)) (cond b (withCar s t) t) ≡ t
+      by-test true = taken-back t
+      by-test false = refl
+
+  sums-back : (x : Sums) → sumsWithout (sumsWith x s) s ≡ x
+  sums-back x = rw (taken-back (x .all), grades-back 1 (x .grades))
+
+  pub sums-less : (k l : List Shown) → sumsWithout (sumsOf (k ++ s ∷ l)) s ≡ sumsOf (k ++ l)
+  sums-less k l = ap (λ (x : Sums). sumsWithout x s) (sums-more k s l) ∙ sums-back (sumsOf (k ++ l))
 
 pub all-of : (ss : List Shown) → sumsOf ss .all ≡ totalsOf ss
 unfolding sumsOf
@@ -135,6 +161,46 @@ grade-low {s} h i k =
       net-low = omega (arith, h .low .net-low, part-most (totalIn net) (s .grades) i noTotals k);
     }
 
+-- Sums of n cars, whatever they are.
+
+small-more : {n : ℕ} {t : Totals} (s : Shown) → Small n t → s .gross ≤ 4_294_967_295 → s .net ≤ 4_294_967_295 → Small (n + 1) (withCar s t)
+small-more s h p q = record { few = omega (arith, h .few); gross-low = omega (arith, h .gross-low); net-low = omega (arith, h .net-low) }
+
+small-next : {n : ℕ} {t : Totals} → Small n t → Small (n + 1) t
+small-next h = record { few = omega (arith, h .few); gross-low = omega (arith, h .gross-low); net-low = omega (arith, h .net-low) }
+
+room-grades : {n : ℕ} (s : Shown) (g : ℕ) (ts : List Totals) → s .gross ≤ 4_294_967_295 → s .net ≤ 4_294_967_295 → ((k : ℕ) → Small n (getD ts k noTotals))
+    → (k : ℕ) → Small (n + 1) (getD (gradeChanged (withCar s) (s .grade) g ts) k noTotals)
+room-grades s g [] p q h k = small-next (h k)
+room-grades s g (t ∷ ts) p q h zero =
+    cond-either (Small _) (eqb (s .grade) g) (withCar s t) t (λ _. small-more s (h zero) p q) (λ _. small-next (h zero))
+room-grades s g (t ∷ ts) p q h (suc k) = room-grades s (g + 1) ts p q (λ i. h (suc i)) k
+
+pub room-more : {n : ℕ} {x : Sums} (s : Shown) → Room n x → s .gross ≤ 4_294_967_295 → s .net ≤ 4_294_967_295 → Room (n + 1) (sumsWith x s)
+room-more {x = x} s h p q = record { all = small-more s (h .all) p q; grade = room-grades s 1 (x .grades) p q (h .grade) }
+
+pub room-next : {n : ℕ} {x : Sums} → Room n x → Room (n + 1) x
+room-next h = record { all = small-next (h .all); grade = λ k. small-next (h .grade k) }
+
+pub room-none : Room 0 noSums
+room-none = record { all = none; grade = at }
+  where
+    none : Small 0 noTotals
+    none = record { few = omega arith; gross-low = omega arith; net-low = omega arith }
+
+    at : (k : ℕ) → Small 0 (getD (noSums .grades) k noTotals)
+    at zero = none
+    at (suc zero) = none
+    at (suc (suc zero)) = none
+    at (suc (suc (suc zero))) = none
+    at (suc (suc (suc (suc k)))) = none
+
+pub room-up : {n m : ℕ} {x : Sums} → n ≤ m → Room n x → Room m x
+room-up {n} {m} i h = record { all = up (h .all); grade = λ k. up (h .grade k) }
+  where
+    up : {t : Totals} → Small n t → Small m t
+    up a = record { few = omega (arith, a .few); gross-low = omega (arith, a .gross-low); net-low = omega (arith, a .net-low) }
+
 each-place : {A : Type 0} (P : A → Type 0) (l : List A) (d : A) → ((i : ℕ) → i < length l → P (getD l i d)) → Each P l
 each-place P [] d f = tt
 each-place P (a ∷ l) d f = (f zero (omega arith), each-place P l d (λ i h. f (suc i) (omega arith)))
@@ -153,9 +219,11 @@ module _ (change : Totals → Totals) (grade : ℕ) where
   grade-set g zero (t ∷ ts) e h = rw (eq-eqb grade g (omega arith)) (ap (λ (l : List Totals). change t ∷ l) (sym (later-grades (g + 1) ts (omega arith))))
   grade-set g (suc i) (t ∷ ts) e h = rw (ne-eqb grade g (λ q. omega arith)) (ap (λ (l : List Totals). t ∷ l) (grade-set (g + 1) i ts (omega arith) (omega arith)))
 
-  pub length-changed : (g : ℕ) (ts : List Totals) → length (gradeChanged change grade g ts) ≡ length ts
-  length-changed g [] = refl
-  length-changed g (t ∷ ts) = ap suc (length-changed (g + 1) ts)
+  -- in none where there is no such grade
+  pub grade-none : (g : ℕ) (ts : List Totals) → g + length ts ≤ grade → gradeChanged change grade g ts ≡ ts
+  grade-none g [] h = refl
+  grade-none g (t ∷ ts) h = rw (ne-eqb grade g (λ e. omega arith)) (ap (λ (l : List Totals). t ∷ l) (grade-none (g + 1) ts (omega arith)))
+  -- what stands there then
 
 -- Equality as a test.
 
@@ -171,6 +239,45 @@ totals-same {a} {b} e =
     let q = eq-eqb (a .gross) (b .gross) (ap (λ (t : Totals). t .gross) e) in
     let r = eq-eqb (a .net) (b .net) (ap (λ (t : Totals). t .net) e) in
     rw (p, q, r)
+
+same-each : (ts us : List Totals) → sameEach ts us ≡ true → ts ≡ us
+same-each [] [] e = refl
+same-each [] (u ∷ us) e = absurd (true≢false (sym e))
+same-each (t ∷ ts) [] e = absurd (true≢false (sym e))
+same-each (t ∷ ts) (u ∷ us) e =
+    let p = both-hold (sameTotals t u) (sameEach ts us) e in
+    ap₂ (λ (x : Totals) (l : List Totals). x ∷ l) (same-totals (p .0)) (same-each ts us (p .1))
+
+each-same : (ts : List Totals) → sameEach ts ts ≡ true
+each-same [] = refl
+each-same (t ∷ ts) = rw (totals-same {a = t} {b = t} refl, each-same ts)
+
+-- one more grade is passed
+pub each-next : (ts us : List Totals) (i : ℕ) → i < length ts → i < length us
+    → sameEach (drop i ts) (drop i us) ≡ (sameTotals (getD ts i noTotals) (getD us i noTotals) && sameEach (drop (i + 1) ts) (drop (i + 1) us))
+each-next ts us i h k =
+    ap₂ sameEach (drop-cons ts i noTotals h) (drop-cons us i noTotals k)
+    ∙ ap (λ (j : ℕ). sameTotals (getD ts i noTotals) (getD us i noTotals) && sameEach (drop j ts) (drop j us)) (sym (add-one i))
+
+pub each-passed : (ts us : List Totals) (i : ℕ) → length ts ≤ i → length us ≤ i → sameEach (drop i ts) (drop i us) ≡ true
+each-passed ts us i h k = ap₂ sameEach (drop-of-length-le ts h) (drop-of-length-le us k)
+
+-- a test that was taken, and one that was left
+pub apart : {r t : Bool} → r ≡ t → not r ≡ true → t ≡ false
+apart {r} p q = sym p ∙ not-true r q
+
+pub alike : {r t : Bool} → r ≡ t → not r ≡ false → t ≡ true
+alike {r} p q = sym p ∙ not-false r q
+
+pub same-sums : {a b : Sums} → sameSums a b ≡ true → a ≡ b
+same-sums {a} {b} e =
+    let p = both-hold (sameTotals (a .all) (b .all)) (sameEach (a .grades) (b .grades)) e in
+    let all = same-totals {a = a .all} {b = b .all} (p .0) in
+    let grades = same-each (a .grades) (b .grades) (p .1) in
+    ap₂ (λ (t : Totals) (l : List Totals). record { all = t; grades = l }) all grades
+
+pub sums-same : {a b : Sums} → a ≡ b → sameSums a b ≡ true
+sums-same {a} {b} e = rw e (rw (totals-same {a = b .all} {b = b .all} refl, each-same (b .grades)))
 
 -- four parts taken from a sum one after another
 module _ (s a b c d : ℕ) where

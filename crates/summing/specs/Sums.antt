@@ -1,6 +1,6 @@
 -- How many cars are accepted and their total masses: of all cars, and of those of each grade.
-use Prim.Native.Nat.{ℕ, _+_}
-use mathlib.Core.Bool.{Bool, cond, _&&_}
+use Prim.Native.Nat.{ℕ, _+_, _-_}
+use mathlib.Core.Bool.{Bool, true, false, cond, _&&_}
 use mathlib.Core.List.{List, [], _∷_}
 use lib.Dec.{eqb}
 use lib.ListN.{length, getD, replicate}
@@ -70,9 +70,22 @@ together ts = record {
 abbrev pub sameTotals : Totals → Totals → Bool
 sameTotals a b = eqb (a .accepted) (b .accepted) && eqb (a .gross) (b .gross) && eqb (a .net) (b .net)
 
--- with one car more
+abbrev pub sameEach : List Totals → List Totals → Bool
+sameEach [] [] = true
+sameEach [] (u ∷ us) = false
+sameEach (t ∷ ts) [] = false
+sameEach (t ∷ ts) (u ∷ us) = sameTotals t u && sameEach ts us
+
+-- of all cars, and of each grade
+abbrev pub sameSums : Sums → Sums → Bool
+sameSums a b = sameTotals (a .all) (b .all) && sameEach (a .grades) (b .grades)
+
+-- with one car more, and with one less
 abbrev pub withCar : Shown → Totals → Totals
 withCar s t = record { accepted = t .accepted + 1; gross = t .gross + s .gross; net = t .net + s .net }
+
+abbrev pub withoutCar : Shown → Totals → Totals
+withoutCar s t = record { accepted = t .accepted - 1; gross = t .gross - s .gross; net = t .net - s .net }
 
 -- of totals by grade, the first of them of the grade g, those of a car's grade are changed
 abbrev pub gradeChanged : (Totals → Totals) → ℕ → ℕ → List Totals → List Totals
@@ -85,3 +98,6 @@ sumsChanged change grade s = record { all = change (s .all); grades = gradeChang
 
 abbrev pub sumsWith : Sums → Shown → Sums
 sumsWith sums s = sumsChanged (withCar s) (s .grade) sums
+
+abbrev pub sumsWithout : Sums → Shown → Sums
+sumsWithout sums s = sumsChanged (withoutCar s) (s .grade) sums

@@ -1,12 +1,12 @@
-// Accepted cars and their total masses, of all cars and of each grade: with one car more, and whether those of all are the sums of the grades'.
+// Accepted cars and their total masses, of all cars and of each grade: with one car more, whether two are the same, and whether those of all are the sums of
+// the grades'.
 ghost use mathlib.Core.Path.{_≡_};
 ghost use Prim.Native.Nat.{_+_, _≤_};
 ghost use lib.Dec.{eqb};
-ghost use Rattle.base.specs.Limits.{gradeCount};
-ghost use Rattle.summing.specs.Sums.{together, sameTotals, withCar, sumsWith};
-ghost use Rattle.summing.specs.Inner.{Low, Sound, shownAs, sumsAfter, Graded};
+ghost use Rattle.base.specs.Limits.{mostCars};
+ghost use Rattle.summing.specs.Sums.{together, sameTotals, sameSums, withCar, sumsWith};
+ghost use Rattle.summing.specs.Inner.{Small, Room, shownAs};
 use base::GRADES;
-use car::CarAnswer;
 
 // How many cars are accepted, and their gross and net in kg.
 pub struct Totals {
@@ -42,7 +42,7 @@ fn is_sum(sum: u64, a: u64, b: u64, c: u64, d: u64) -> bool
 impl Totals {
     // With one car more.
     fn with_car(self, grade: u32, gross: u32, net: u32) -> Totals
-        requires { ⌜ Low self ⌝ }
+        requires { ⌜ Small mostCars self ⌝ }
         ensures { λ r. ⌜ r ≡ withCar (shownAs grade gross net) self ⌝ }
     {
         Totals {
@@ -54,30 +54,56 @@ impl Totals {
 }
 
 impl Sums {
-    // With one car more, of a grade from 1 on.
-    fn with_car(self, grade: u32, gross: u32, net: u32) -> Sums
-        requires { ⌜ Sound self × (1 ≤ grade) × (grade ≤ gradeCount) ⌝ }
+    // With one car more, of a grade from 1 on; one of a grade that there is not is added to those of all cars alone.
+    pub fn with_car(self, grade: u32, gross: u32, net: u32) -> Sums
+        requires { ⌜ Room mostCars self × (1 ≤ grade) ⌝ }
         ensures { λ r. ⌜ r ≡ sumsWith self (shownAs grade gross net) ⌝ }
     {
         let all = self.all;
         let place = grade as usize - 1;
-        let of_grade = self.grades[place];
         let mut next = self;
         next.all = all.with_car(grade, gross, net);
+        if GRADES <= place {
+            return next;
+        }
+        let of_grade = self.grades[place];
         next.grades[place] = of_grade.with_car(grade, gross, net);
         next
     }
 }
 
-// The sums with a car's answer: its masses where it is accepted.
-pub fn with_answer(sums: Sums, grade: u32, answer: CarAnswer) -> Sums
-    requires { ⌜ Sound sums × Graded grade answer ⌝ }
-    ensures { λ r. ⌜ r ≡ sumsAfter sums grade answer ⌝ }
+// Whether two totals are the same.
+fn same_totals(a: Totals, b: Totals) -> bool
+    ensures { λ r. ⌜ r ≡ sameTotals a b ⌝ }
 {
-    match answer {
-        CarAnswer::Accepted(f) => sums.with_car(grade, f.gross, f.net),
-        CarAnswer::Refused(_) => sums,
+    if a.accepted != b.accepted {
+        return false;
     }
+    if a.gross != b.gross {
+        return false;
+    }
+    a.net == b.net
+}
+
+// Whether two sums are the same, of all cars and of each grade.
+pub fn same(a: Sums, b: Sums) -> bool
+    ensures { λ r. ⌜ r ≡ sameSums a b ⌝ }
+{
+    let x = a.all;
+    let y = b.all;
+    if !same_totals(x, y) {
+        return false;
+    }
+    let mut i: usize = 0;
+    while i < GRADES {
+        let x = a.grades[i];
+        let y = b.grades[i];
+        if !same_totals(x, y) {
+            return false;
+        }
+        i += 1;
+    }
+    true
 }
 
 // Whether the totals of all cars are the sums of the grades'.

@@ -48,15 +48,17 @@ pub use laboratory::DensityAt15;
 pub use laboratory::Report;
 pub use reducing::density_at_15;
 
-// A car and the running train: `Train::empty`, `Train::enter`.
+// A car and the running train: `Train::empty`, `Train::enter`, `Train::strike`.
 pub use car::Car;
 pub use car::CarAnswer;
 pub use car::Figures;
 pub use summing::Sums;
 pub use summing::Totals;
 pub use train::Step;
+pub use train::StrikeStep;
 pub use train::Train;
 pub use train::work_out;
+pub use train_strike::StrikeAnswer;
 
 // The permitted error beside the mass of a car.
 pub use accuracy::Errors;

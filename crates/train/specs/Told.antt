@@ -3,4 +3,5 @@ use Rattle.consist.specs.Train as consist
 use Rattle.train.specs.declared.Train.{Train}
 
 abbrev pub trainTold : Train → consist.Train
-trainTold t = record { sums = t .sums; held = t .held; numbers = t .numbers }
+trainTold t =
+    record { sums = t .sums; held = t .held; numbers = t .numbers; grades = t .grades; grosses = t .grosses; nets = t .nets }

@@ -2,21 +2,32 @@
 use base::MOST_CARS;
 use car::CarAnswer;
 use summing::Sums;
+use train_strike::StrikeAnswer;
 
 mod alone; // alone.rt: a car by itself
 mod running; // running.rt: the running train
 
 pub use alone::work_out;
 
-// The running train: its sums, and the numbers it holds, in the first `held` places.
+// The running train: its sums, and the cars it holds in the first `held` places, by number, grade, gross and net in kg; grade 0
+// is a car that was refused, and has no masses.
 pub struct Train {
     pub sums: Sums,
     pub held: u32,
     pub numbers: [u32; MOST_CARS],
+    pub grades: [u32; MOST_CARS],
+    pub grosses: [u32; MOST_CARS],
+    pub nets: [u32; MOST_CARS],
 }
 
 // What entering a car gives: its answer, and the train with it entered.
 pub struct Step {
     pub answer: CarAnswer,
+    pub train: Train,
+}
+
+// What striking a car gives: its answer, and the train without the car.
+pub struct StrikeStep {
+    pub answer: StrikeAnswer,
     pub train: Train,
 }

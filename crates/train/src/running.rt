@@ -1,33 +1,61 @@
-// The running train: empty, and with one car more entered.
+// The running train: empty, with one car more entered, and with one struck.
 ghost use mathlib.Core.Path.{_≡_};
 ghost use mathlib.Core.List.{List};
+ghost use Prim.Native.Nat.{_≤_};
+ghost use Rattle.base.specs.Limits.{mostCars};
 ghost use Rattle.table.specs.Layout.{tablesOf};
 ghost use Rattle.car.specs.Car.{measured, carTold};
-ghost use Rattle.consist.specs.Train.{unsound, emptyTrain, enterAnswer, enterTrain};
+ghost use Rattle.consist.specs.Train.{emptyTrain, enterAnswer, enterTrain, strikeAnswer, strikeTrain};
 ghost use Rattle.consist.specs.Book.{Item};
 ghost use Rattle.consist.specs.Book.{car as carItem};
+ghost use Rattle.consist.specs.Book.{strike as strikeItem};
 ghost use Rattle.consist.specs.Demand3.{Close, Reconciled, Continues, InOrder};
-ghost use Rattle.consist.specs.Examples.{BookExample, GradesExample, EnterOrder};
+ghost use Rattle.consist.specs.Examples.{BookExample, GradesExample};
+ghost use Rattle.consist.specs.Lent.{lentTrain};
+ghost use Rattle.consist.specs.HandedInExamples.{EnterOrder, StrikeOrder};
+ghost use Rattle.consist.specs.StrikeExamples.{StrikesExample};
+ghost use Rattle.train_strike.specs.Told.{strikeTold};
 ghost use Rattle.train.specs.Told.{trainTold};
 use crate::Step;
+use crate::StrikeStep;
 use crate::Train;
 use base::GRADES;
 use base::MOST_CARS;
 use car::Car;
 use car::CarAnswer;
-use entering::Tally;
+use consist::Tally;
 use summing::Sums;
 use summing::Totals;
 use table::Directory;
 use table::PLACES;
+use train_strike::StrikeAnswer;
 
-// The greatest total of a train, in kg.
-const MOST_IN_TRAIN: u64 = 12_000_000;
+// The train of these cars, with the sums that they make.
+fn with_sums(
+    held: u32,
+    numbers: [u32; MOST_CARS],
+    grades: [u32; MOST_CARS],
+    grosses: [u32; MOST_CARS],
+    nets: [u32; MOST_CARS],
+) -> Train
+    requires { ⌜ held ≤ mostCars ⌝ }
+    ensures { λ r. ⌜ trainTold r ≡ lentTrain held numbers grades grosses nets ⌝ }
+{
+    let sums = train_audit::made_by(held as usize, &grades, &grosses, &nets);
+    Train {
+        sums,
+        held,
+        numbers,
+        grades,
+        grosses,
+        nets,
+    }
+}
 
 impl Train {
     // A train with no cars.
     pub fn empty() -> Train
-        ensures { λ r. ⌜ (trainTold r ≡ emptyTrain) × ((items : List Item) → Reconciled items) × BookExample × GradesExample ⌝ }
+        ensures { λ r. ⌜ (trainTold r ≡ emptyTrain) × ((items : List Item) → Reconciled items) × BookExample × GradesExample × StrikesExample ⌝ }
     {
         let none = Totals {
             accepted: 0,
@@ -42,25 +70,10 @@ impl Train {
             sums,
             held: 0,
             numbers: [0u32; MOST_CARS],
+            grades: [0u32; MOST_CARS],
+            grosses: [0u32; MOST_CARS],
+            nets: [0u32; MOST_CARS],
         }
-    }
-
-    // 9 of a train handed in, but for the numbers that it holds: over its limits, or not the sums of its grades.
-    fn is_unsound(self) -> bool
-        ensures { λ r. ⌜ r ≡ unsound (trainTold self) ⌝ }
-    {
-        let sums = self.sums;
-        let all = sums.all;
-        if MOST_CARS < all.accepted as usize {
-            return true;
-        }
-        if MOST_IN_TRAIN < all.gross {
-            return true;
-        }
-        if MOST_IN_TRAIN < all.net {
-            return true;
-        }
-        !summing::adds_up(sums)
     }
 
     // Enters a car with its tables: its answer, and the train to hand in with the next.
@@ -87,31 +100,67 @@ impl Train {
                 train: self,
             };
         }
-        if self.is_unsound() {
+        let sums = self.sums;
+        let held = self.held;
+        let mut numbers = self.numbers;
+        let mut grades = self.grades;
+        let mut grosses = self.grosses;
+        let mut nets = self.nets;
+        let tally = Tally { sums, held };
+        if train_audit::is_unsound(tally, &numbers, &grades, &grosses, &nets) {
             return Step {
                 answer: CarAnswer::Refused(9),
                 train: self,
             };
         }
-        let sums = self.sums;
-        let held = self.held;
-        let mut numbers = self.numbers;
         let entered = entering::enter_on(
-            Tally { sums, held },
+            held,
             &mut numbers,
+            &mut grades,
+            &mut grosses,
+            &mut nets,
             d,
             levels,
             capacities,
             car,
         );
-        let next = entered.tally;
         let answer = entered.answer;
-        let next_sums = next.sums;
-        let train = Train {
-            sums: next_sums,
-            held: next.held,
-            numbers,
-        };
+        let train = with_sums(entered.held, numbers, grades, grosses, nets);
         Step { answer, train }
+    }
+
+    // Strikes the car of a number: its answer, and the train to hand in next.
+    pub fn strike(self, number: u32) -> StrikeStep
+        ensures { λ r. ⌜
+            (strikeTold (r .answer) ≡ strikeAnswer (trainTold self) number)
+            × (trainTold (r .train) ≡ strikeTrain (trainTold self) number)
+            × Continues (trainTold self) (strikeItem number) (strikeTold (r .answer)) (trainTold (r .train))
+            × StrikeOrder
+            ⌝ }
+    {
+        let sums = self.sums;
+        let held = self.held;
+        let mut numbers = self.numbers;
+        let mut grades = self.grades;
+        let mut grosses = self.grosses;
+        let mut nets = self.nets;
+        let tally = Tally { sums, held };
+        if train_audit::is_unsound(tally, &numbers, &grades, &grosses, &nets) {
+            return StrikeStep {
+                answer: StrikeAnswer::Refused(9),
+                train: self,
+            };
+        }
+        let struck = train_strike::strike_on(
+            held,
+            &mut numbers,
+            &mut grades,
+            &mut grosses,
+            &mut nets,
+            number,
+        );
+        let answer = struck.answer;
+        let train = with_sums(struck.held, numbers, grades, grosses, nets);
+        StrikeStep { answer, train }
     }
 }

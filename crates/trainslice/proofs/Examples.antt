@@ -1,7 +1,8 @@
 -- A worked example, computed: a train as a caller finds it in the lent numbers.
 use Prim.Native.Nat.{ℕ}
 use mathlib.Core.Path.{_≡_, refl}
-use mathlib.Core.List.{List, [], _∷_}
+use mathlib.Core.List.{List, [], _∷_, _++_}
+use lib.ListN.{replicate}
 use Rattle.consist.specs.Train.{Train}
 use Rattle.trainslice.specs.Layout.{trainNumbers, trainOf, trainPlaces}
 
@@ -13,8 +14,11 @@ example = record {
     grades = record { accepted = 1; gross = 13; net = 12 } ∷ record { accepted = 2; gross = 23; net = 22 } ∷ record { accepted = 3; gross = 33; net = 32 }
         ∷ record { accepted = 4; gross = 43; net = 8_589_934_634 } ∷ [];
   };
-  held = 4;
-  numbers = 11 ∷ 12 ∷ [];
+  held = 2;
+  numbers = 11 ∷ 12 ∷ replicate 58 0;
+  grades = 3 ∷ 0 ∷ replicate 58 0;
+  grosses = 33 ∷ 0 ∷ replicate 58 0;
+  nets = 32 ∷ 0 ∷ replicate 58 0;
 }
 
 abbrev exampleNumbers : List ℕ
@@ -24,8 +28,8 @@ exampleNumbers =
     ∷ 2 ∷ 23 ∷ 0 ∷ 22 ∷ 0
     ∷ 3 ∷ 33 ∷ 0 ∷ 32 ∷ 0
     ∷ 4 ∷ 43 ∷ 0 ∷ 42 ∷ 2
-    ∷ 4
-    ∷ 11 ∷ 12 ∷ []
+    ∷ 2
+    ∷ 11 ∷ 12 ∷ (replicate 58 0 ++ (3 ∷ 0 ∷ (replicate 58 0 ++ (33 ∷ 0 ∷ (replicate 58 0 ++ (32 ∷ 0 ∷ replicate 58 0))))))
 
 train-lent : trainNumbers example ≡ exampleNumbers
 train-lent = refl
@@ -33,5 +37,5 @@ train-lent = refl
 train-read : trainOf exampleNumbers ≡ example
 train-read = refl
 
-train-places : trainPlaces ≡ 86
+train-places : trainPlaces ≡ 266
 train-places = refl

@@ -3,7 +3,7 @@ use Prim.Native.Nat.{ℕ, _+_, _*_, _/_, _%_}
 use mathlib.Core.Path.{_≡_}
 use mathlib.Core.Bool.{Bool, true, cond}
 use mathlib.Core.List.{List, [], _∷_, _++_}
-use lib.ListN.{getD, drop}
+use lib.ListN.{getD, take, drop}
 use Rattle.base.specs.Limits.{mostCars, gradeCount}
 use Rattle.summing.specs.declared.Totals.{Totals}
 use Rattle.summing.specs.declared.Sums.{Sums}
@@ -31,19 +31,24 @@ totalsAt l at = record {
 abbrev pub totalsNumbers : Totals → List ℕ
 totalsNumbers t = t .accepted ∷ t .gross % half ∷ t .gross / half ∷ t .net % half ∷ t .net / half ∷ []
 
--- A train: the totals of all cars and of each grade, then how many numbers it holds, then the places of these numbers.
+-- A train: the totals of all cars and of each grade, then how many cars it holds, then sixty places for their numbers, sixty for their grades, sixty for their
+-- gross and sixty for their net masses.
 
 abbrev pub sumsPlaces : ℕ
 sumsPlaces = totalsPlaces + gradeCount * totalsPlaces
 
 abbrev pub trainPlaces : ℕ
-trainPlaces = sumsPlaces + 1 + mostCars
+trainPlaces = sumsPlaces + 1 + 4 * mostCars
 
 abbrev pub sumsOf : List ℕ → Sums
 sumsOf l = record { all = totalsAt l 0; grades = totalsAt l 5 ∷ totalsAt l 10 ∷ totalsAt l 15 ∷ totalsAt l 20 ∷ [] }
 
+-- a row of sixty that lies from a place on
+abbrev pub rowAt : List ℕ → ℕ → List ℕ
+rowAt l at = take mostCars (drop at l)
+
 abbrev pub trainOf : List ℕ → Train
-trainOf l = record { sums = sumsOf l; held = getD l sumsPlaces 0; numbers = drop (sumsPlaces + 1) l }
+trainOf l = record { sums = sumsOf l; held = getD l sumsPlaces 0; numbers = rowAt l 26; grades = rowAt l 86; grosses = rowAt l 146; nets = rowAt l 206 }
 
 abbrev pub gradesNumbers : List Totals → List ℕ
 gradesNumbers [] = []
@@ -53,7 +58,7 @@ abbrev pub sumsNumbers : Sums → List ℕ
 sumsNumbers s = totalsNumbers (s .all) ++ gradesNumbers (s .grades)
 
 abbrev pub trainNumbers : Train → List ℕ
-trainNumbers t = sumsNumbers (t .sums) ++ (t .held ∷ t .numbers)
+trainNumbers t = sumsNumbers (t .sums) ++ (t .held ∷ (t .numbers ++ (t .grades ++ (t .grosses ++ t .nets))))
 
 -- the train t handed back, in the lent numbers where the lengths are right; the next call reads t from them, and a train that was
 -- not changed is left number by number

@@ -3,8 +3,9 @@ ghost use mathlib.Core.Path.{_≡_};
 ghost use Prim.Native.Nat.{_+_, _≤_};
 ghost use lib.ListN.{length};
 ghost use Rattle.base.specs.Buffer.{put};
+ghost use Rattle.base.specs.Limits.{mostCars};
 ghost use Rattle.train.specs.Told.{trainTold};
-ghost use Rattle.trainslice.specs.Layout.{joined, totalsPlaces, totalsAt, totalsNumbers, sumsPlaces, trainPlaces, trainOf, sumsNumbers, trainNumbers};
+ghost use Rattle.trainslice.specs.Layout.{joined, totalsPlaces, totalsAt, totalsNumbers, sumsPlaces, trainPlaces, rowAt, trainOf, sumsNumbers, trainNumbers};
 use base::GRADES;
 use base::MOST_CARS;
 use summing::Sums;
@@ -17,8 +18,17 @@ const TOTALS_PLACES: usize = 5;
 // Of all cars and of each grade.
 const SUMS_PLACES: usize = TOTALS_PLACES + GRADES * TOTALS_PLACES;
 
-// Behind them how many numbers the train holds, and a place for each of these.
-pub const TRAIN_PLACES: usize = SUMS_PLACES + 1 + MOST_CARS;
+// Behind them how many cars the train holds, and a place for each: its numbers, its grades, its gross and its net masses.
+pub const TRAIN_PLACES: usize = SUMS_PLACES + 1 + 4 * MOST_CARS;
+
+// Where these four rows lie.
+const NUMBERS: usize = SUMS_PLACES + 1;
+
+const GRADES_HELD: usize = NUMBERS + MOST_CARS;
+
+const GROSSES: usize = NUMBERS + 2 * MOST_CARS;
+
+const NETS: usize = NUMBERS + 3 * MOST_CARS;
 
 const HALF: u64 = 4_294_967_296;
 
@@ -41,14 +51,22 @@ fn totals_at(numbers: &[u32], at: usize) -> Totals
     }
 }
 
+// The row of sixty that lies from `at` on.
+fn row_at(numbers: &[u32], at: usize) -> [u32; MOST_CARS]
+    requires { ⌜ at + mostCars ≤ length (now numbers) ⌝ }
+    ensures { λ r. ⌜ r ≡ rowAt (now (numbers .entry)) at ⌝ }
+{
+    let mut row = [0u32; MOST_CARS];
+    marshalling::copy(&numbers[at..at + MOST_CARS], &mut row);
+    row
+}
+
 // The train that lies in a slice.
 pub fn train_of(numbers: &[u32]) -> Train
     requires { ⌜ length (now numbers) ≡ trainPlaces ⌝ }
     ensures { λ r. ⌜ trainTold r ≡ trainOf (now (numbers .entry)) ⌝ }
 {
-    let mut held = [0u32; MOST_CARS];
-    marshalling::copy(&numbers[SUMS_PLACES + 1..], &mut held);
-    let grades = [
+    let of_grades = [
         totals_at(numbers, TOTALS_PLACES),
         totals_at(numbers, 2 * TOTALS_PLACES),
         totals_at(numbers, 3 * TOTALS_PLACES),
@@ -56,12 +74,15 @@ pub fn train_of(numbers: &[u32]) -> Train
     ];
     let sums = Sums {
         all: totals_at(numbers, 0),
-        grades,
+        grades: of_grades,
     };
     Train {
         sums,
         held: numbers[SUMS_PLACES],
-        numbers: held,
+        numbers: row_at(numbers, NUMBERS),
+        grades: row_at(numbers, GRADES_HELD),
+        grosses: row_at(numbers, GROSSES),
+        nets: row_at(numbers, NETS),
     }
 }
 
@@ -95,14 +116,20 @@ fn write_sums(sums: Sums, to: &mut [u32])
     }
 }
 
-// Writes a train into its slice.
+// Writes a train into its slice, from which it is read again.
 pub fn write_train(train: Train, to: &mut [u32])
     requires { ⌜ length (now to) ≡ trainPlaces ⌝ }
-    ensures { λ _. ⌜ now (to .exit) ≡ trainNumbers (trainTold train) ⌝ }
+    ensures { λ _. ⌜ (now (to .exit) ≡ trainNumbers (trainTold train)) × (trainOf (now (to .exit)) ≡ trainTold train) ⌝ }
 {
     let sums = train.sums;
     write_sums(sums, to);
     to[SUMS_PLACES] = train.held;
     let numbers = train.numbers;
-    marshalling::copy_at(&numbers, to, SUMS_PLACES + 1);
+    marshalling::copy_at(&numbers, to, NUMBERS);
+    let grades = train.grades;
+    marshalling::copy_at(&grades, to, GRADES_HELD);
+    let grosses = train.grosses;
+    marshalling::copy_at(&grosses, to, GROSSES);
+    let nets = train.nets;
+    marshalling::copy_at(&nets, to, NETS);
 }

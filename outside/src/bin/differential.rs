@@ -13,10 +13,11 @@ const SHEETS: u64 = 20_000;
 const MARGIN: usize = 64;
 
 /// Refusals are numbered below this.
-const NUMBERS: usize = 24;
+const NUMBERS: usize = 31;
 
-/// Bytes of the four G lines.
-const GRADE_LINES: usize = 4 * 38;
+/// Buffers that are too short: by one byte, by the four G lines, so that the longest listing that can be
+/// has just room (120 A lines and 60 K lines), and as long as was asked for before there were strikes.
+const TOO_SHORT: [usize; 4] = [ANSWER_BYTES - 1, ANSWER_BYTES - 4 * 38, 7_561, 3_541];
 
 fn main() -> ExitCode {
     let arguments: Vec<String> = std::env::args().skip(1).collect();
@@ -76,8 +77,10 @@ impl Outcome {
     /// Lends a buffer with the seed's size and pattern to a program.
     fn of(program: fn(&[u8], &mut [u8]) -> (usize, u32), sheet: &[u8], seed: u64) -> Self {
         let room = room(seed);
-        let mut bytes: Vec<u8> =
-            (0..room + 2 * MARGIN).map(|place| mix(seed ^ (place as u64) << 32) as u8).collect();
+        let mut bytes = vec![0; room + 2 * MARGIN];
+        for (place, eight) in (0..).zip(bytes.chunks_mut(8)) {
+            eight.copy_from_slice(&mix(seed ^ place << 32).to_le_bytes()[..eight.len()]);
+        }
         let (length, number) = program(sheet, &mut bytes[MARGIN..MARGIN + room]);
         Self { length, number, bytes }
     }
@@ -89,13 +92,12 @@ impl Outcome {
     }
 }
 
-/// Bytes of the answer buffer: mostly just enough, at times more, one in eight too few, of which some
-/// are enough for all but the last byte or for all but the G lines.
+/// Bytes of the answer buffer: mostly just enough, at times more, one in eight too few.
 fn room(seed: u64) -> usize {
     let drawn = mix(seed) as usize;
     match drawn % 16 {
         0 => (drawn >> 8) % ANSWER_BYTES,
-        1 => ANSWER_BYTES - [1, GRADE_LINES][(drawn >> 8) % 2],
+        1 => TOO_SHORT[(drawn >> 8) % TOO_SHORT.len()],
         2 => ANSWER_BYTES + 1,
         3..=5 => ANSWER_BYTES + (drawn >> 8) % 5_000,
         _ => ANSWER_BYTES,
@@ -120,10 +122,14 @@ fn report_difference(seed: u64, sheet: &[u8], proved: &Outcome, expected: &Outco
 struct Tally {
     sheets: u64,
     accepted_sheets: u64,
-    accepted_cars: u64,
-    /// Accepted cars of each grade, from 1 to 4.
+    /// A and K lines: cars accepted, and cars struck.
+    accepted: u64,
+    struck: u64,
+    /// Accepted cars of each grade, from 1 to 4, that are held at the end.
     grades: [u64; 4],
-    refusals: [u64; NUMBERS],
+    /// By their numbers: sheets refused, and cars and strikes refused.
+    refused_sheets: [u64; NUMBERS],
+    refused_lines: [u64; NUMBERS],
 }
 
 impl Tally {
@@ -131,11 +137,11 @@ impl Tally {
     fn with(mut self, other: &Self) -> Self {
         self.sheets += other.sheets;
         self.accepted_sheets += other.accepted_sheets;
-        self.accepted_cars += other.accepted_cars;
-        let here = self.grades.iter_mut().chain(&mut self.refusals);
-        for (here, there) in here.zip(other.grades.iter().chain(&other.refusals)) {
-            *here += there;
-        }
+        self.accepted += other.accepted;
+        self.struck += other.struck;
+        add(&mut self.grades, &other.grades);
+        add(&mut self.refused_sheets, &other.refused_sheets);
+        add(&mut self.refused_lines, &other.refused_lines);
         self
     }
 
@@ -143,12 +149,13 @@ impl Tally {
         self.sheets += 1;
         match outcome.number {
             0 => self.accepted_sheets += 1,
-            number => self.refusals[number as usize] += 1,
+            number => self.refused_sheets[number as usize] += 1,
         }
         for line in outcome.answer().split(|&byte| byte == b'\n') {
             match line.first() {
-                Some(b'A') => self.accepted_cars += 1,
-                Some(b'X') => self.refusals[field(line, 1)] += 1,
+                Some(b'A') => self.accepted += 1,
+                Some(b'K') => self.struck += 1,
+                Some(b'X') => self.refused_lines[field(line, 1)] += 1,
                 Some(b'G') => self.grades[field(line, 0) - 1] += field(line, 1) as u64,
                 _ => {}
             }
@@ -157,17 +164,24 @@ impl Tally {
 
     fn print(&self) {
         println!("{} sheets answered alike, length, number and every byte", self.sheets);
-        println!("accepted: {} sheets, {} cars", self.accepted_sheets, self.accepted_cars);
-        println!("cars accepted, by the G lines of grades 1 to 4: {:?}", self.grades);
-        let of_a_car = (10..16).chain([23]).chain(16..22).collect();
-        for (kind, numbers) in [("sheets", (1..10).collect::<Vec<_>>()), ("cars", of_a_car)] {
-            let counts: Vec<String> = numbers
-                .iter()
-                .map(|&number| format!("{number}: {}", self.refusals[number]))
-                .collect();
-            println!("{kind} refused, by number: {}", counts.join(", "));
-        }
+        println!("accepted: {} sheets, {} cars", self.accepted_sheets, self.accepted);
+        println!("cars struck: {}", self.struck);
+        println!("cars held at the end, by the G lines of grades 1 to 4: {:?}", self.grades);
+        let numbers = (1..10).collect();
+        println!("sheets refused, by number: {}", counts(&self.refused_sheets, numbers));
+        let numbers = (9..16).chain([23]).chain(16..22).chain([30]).collect();
+        println!("cars and strikes refused, by number: {}", counts(&self.refused_lines, numbers));
     }
+}
+
+fn add(here: &mut [u64], there: &[u64]) {
+    here.iter_mut().zip(there).for_each(|(here, there)| *here += there);
+}
+
+fn counts(refused: &[u64; NUMBERS], numbers: Vec<usize>) -> String {
+    let counts: Vec<String> =
+        numbers.iter().map(|&number| format!("{number}: {}", refused[number])).collect();
+    counts.join(", ")
 }
 
 /// The number in a field of a line, from 0 on.

@@ -1,14 +1,16 @@
 //! Every field of every line damaged in each way (6), but for those of an R line that `lines` has.
 
-use super::rack::{cars_on, CAR, TABLE};
+use super::rack::{events_on, CAR, TABLE};
 use super::Case;
+use crate::sheet::Event::{Enter, Strike};
 
 /// The lines that are damaged: number on the sheet, letter, and the numbers of its fields.
-const LINES: [(usize, char, &[u32]); 4] = [
+const LINES: [(usize, char, &[u32]); 5] = [
     (1, 'T', &[1, 4]),
     (3, 'R', &[1000, 20000]),
     (6, 'C', &[50_000_001, 1, 3, 1, 2, 1500, 1500, 0, 0, 0, 600, 9500, 50, 20]),
     (7, 'E', &[1]),
+    (7, 'K', &[50_000_001]),
 ];
 
 /// Ways to damage any field.
@@ -36,7 +38,7 @@ pub fn cases() -> Vec<Case> {
     let of_lines = LINES.into_iter().flat_map(|(line, letter, numbers)| {
         OF_A_LINE.into_iter().enumerate().map(move |(number, (way, bytes))| {
             let name = format!("refusal-06-{}-line-{way}", small(letter));
-            damaged(name, line, (number + 1) % numbers.len(), bytes)
+            damaged(name, (line, letter), (number + 1) % numbers.len(), bytes)
         })
     });
     fields().chain(of_lines).filter(|case| !stands_elsewhere(case.name)).collect()
@@ -54,7 +56,7 @@ fn fields() -> impl Iterator<Item = Case> {
         (0..numbers.len()).flat_map(move |place| {
             OF_A_FIELD.into_iter().map(move |way| {
                 let name = format!("refusal-06-{}-field-{}-{way}", small(letter), place + 1);
-                damaged(name, line, place, &field(way, numbers[place]))
+                damaged(name, (line, letter), place, &field(way, numbers[place]))
             })
         })
     })
@@ -77,9 +79,11 @@ fn field(way: &str, number: u32) -> [u8; 9] {
     field.try_into().expect("nine columns")
 }
 
-/// The paper's table and first car with one field replaced, fields counted from 0.
-fn damaged(name: String, line: usize, place: usize, field: &[u8; 9]) -> Case {
-    let mut sheet = cars_on(TABLE, &[CAR]);
+/// The paper's table and first car, which is struck where a K line is tried, with one field replaced,
+/// fields counted from 0.
+fn damaged(name: String, (line, letter): (usize, char), place: usize, field: &[u8; 9]) -> Case {
+    let events = [Enter(CAR), Strike(CAR.number)];
+    let mut sheet = events_on(TABLE, if letter == 'K' { &events } else { &events[..1] });
     let before: usize =
         sheet.split_inclusive(|&byte| byte == b'\n').take(line - 1).map(<[u8]>::len).sum();
     let start = before + 1 + 9 * place;

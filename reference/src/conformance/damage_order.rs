@@ -1,9 +1,8 @@
 //! Two faults on one line, or on two: which refusal from 2 to 9 is given, for each letter.
 
-use super::rack::{self, cars_on, CAR, TABLE};
+use super::rack;
 use super::text::{change, columns, first_lines};
 use super::Case;
-use crate::car::Car;
 
 pub fn cases() -> Vec<Case> {
     [of_one_line(), letters(), of_two_lines()].into_iter().flatten().collect()
@@ -101,13 +100,9 @@ fn letters() -> Vec<Case> {
 /// An earlier line's refusal before a later line's; 2 before all; 9 for bytes after the end last.
 fn of_two_lines() -> Vec<Case> {
     let rack = rack::sheet();
-    let sixty_one: Vec<Car> = (1..=61).map(|number| Car { number, ..CAR }).collect();
-    let sixty_one = cars_on(TABLE, &sixty_one);
-    let cut = sixty_one.len() - 12;
-    let long = [&change(&rack, 1, b"T", b"Q")[..], &vec![b' '; 39_772 - rack.len()]].concat();
+    let long = [&change(&rack, 1, b"T", b"Q")[..], &vec![b' '; 48_112 - rack.len()]].concat();
     vec![
         Case::new("order-02-before-04", long, "Z 0 2"),
-        Case::new("order-03-before-09-sixty-first-car", sixty_one[..cut].to_vec(), "Z 66 3"),
         Case::new(
             "order-05-before-09-bytes-after-end",
             [&change(&rack, 7, b"1\n", b"1 \n")[..], b"\n"].concat(),

@@ -3,7 +3,7 @@
 use super::Case;
 
 /// What each refusal says, in a few words.
-const REFUSALS: [&str; 24] = [
+const REFUSALS: [&str; 31] = [
     "",
     "the answer buffer is too short",
     "the sheet is too long",
@@ -13,9 +13,9 @@ const REFUSALS: [&str; 24] = [
     "a field is not a number",
     "a bad T line",
     "a bad R line",
-    "the count of cars, or bytes after the end",
+    "too many lines or cars, the count of cars, or bytes after the end",
     "the car number",
-    "the car number stands on an earlier line",
+    "the train holds the car number",
     "no table has the type",
     "grade or stick",
     "the number of readings, or an unused one",
@@ -28,10 +28,19 @@ const REFUSALS: [&str; 24] = [
     "the density at 20 °C",
     "one line written alone",
     "the span of the three readings used",
+    "a given error",
+    "no volume, or the level term",
+    "the laboratory's temperature",
+    "no density is near the report",
+    "the number of tape readings",
+    "a tape reading or the stick level",
+    "the train does not hold the number",
 ];
 
-/// Words of a name that tell the step it tries.
-const STEPS: [(&str, &str); 25] = [
+/// Words of a name that tell the step, or the rule, that it tries.
+const STEPS: [(&str, &str); 27] = [
+    ("strike", "strikes"),
+    ("full-train", "sixty held"),
     ("span", "refusal 23"),
     ("last-level", "refusal 16"),
     ("below-1-mm", "refusal 16"),
@@ -64,7 +73,8 @@ pub fn of(cases: &[Case]) -> String {
     let mut text = format!(
         "# Index of the {} sheets\n\n\
          Made by `make_conformance`. The rule is that of document 01, for totals by grade that of \
-         document 02 (a), for refusal 23 that of 02 (b), for levels in tenths of a mm that of 02 (g); lines are counted from 1 on the sheet.\n\n| Sheet | Rule | Shown by | What it tries |\n|---|---|---|---|\n",
+         document 02 (a), for refusal 23 that of 02 (b), for levels in tenths of a mm that of 02 (g), for strikes and \
+         trains that hold sixty that of 02 (h); lines are counted from 1 on the sheet.\n\n| Sheet | Rule | Shown by | What it tries |\n|---|---|---|---|\n",
         cases.len()
     );
     let mut sorted: Vec<&Case> = cases.iter().collect();
@@ -125,13 +135,14 @@ fn words(name: &str) -> String {
         ("parting", _) => format!("Told from a program that takes the wrong way: {plain}."),
         ("figures", _) => format!("Figures that a wrong calculation misses: {plain}."),
         ("totals", _) => format!("Totals of each grade: {plain}."),
+        ("strike", _) => format!("A car struck: {plain}."),
         ("card", _) => format!("Figures of the rack card: {plain}."),
         ("source", _) => format!("From the standards: {plain}."),
         _ => format!("The sheet that the rules print: {plain}."),
     }
 }
 
-/// The line, or the car with its line, that shows what is tried.
+/// The line, or the car or strike with its line, that shows what is tried.
 fn shown_by(case: &Case) -> String {
     let listing = String::from_utf8_lossy(&case.listing).into_owned();
     let first: Vec<&str> = listing.split_whitespace().take(3).collect();
@@ -139,27 +150,32 @@ fn shown_by(case: &Case) -> String {
         let whole = first[1] == "0";
         return if whole { "the whole sheet".to_string() } else { format!("line {}", first[1]) };
     }
-    let cars: Vec<&str> = listing.lines().filter(|line| line.starts_with(['A', 'X'])).collect();
-    let begin =
-        case.sheet.split(|&byte| byte == b'\n').position(|line| line.first() == Some(&b'C'));
-    let Some(begin) = begin else { return "the listing without cars".to_string() };
-    let wanted = case.name.strip_prefix("refusal-").and_then(refusal);
-    let shows = |line: &&str| match wanted {
-        Some(number) => line.starts_with('X') && line.ends_with(&format!("{number:>9}")),
-        None => true,
-    };
-    let places: Vec<usize> = (0..cars.len()).filter(|&place| shows(&cars[place])).collect();
-    let car = |place: usize| cars[place].split_whitespace().nth(1).unwrap_or("").to_string();
-    match places.as_slice() {
-        [] => "all cars".to_string(),
-        [one] => format!("car {}, line {}", car(*one), begin + one + 1),
-        [one, .., last] => format!(
-            "{} cars, {} in line {} to {} in line {}",
-            places.len(),
-            car(*one),
-            begin + one + 1,
-            car(*last),
-            begin + last + 1
-        ),
+    let lines = (1..).zip(case.sheet.split(|&byte| byte == b'\n'));
+    let asked = lines.filter(|(_, line)| line.starts_with(b"C") || line.starts_with(b"K"));
+    let shown: Vec<(usize, &str)> = asked
+        .zip(listing.lines())
+        .filter(|((_, line), answer)| shows(case.name, line[0], answer))
+        .map(|((number, _), answer)| (number, answer.split_whitespace().nth(1).unwrap_or("")))
+        .collect();
+    let (noun, of) = if tries_strikes(case.name) { ("strike", "of ") } else { ("car", "") };
+    match shown.as_slice() {
+        [] => "the listing without cars".to_string(),
+        [(line, number)] => format!("{noun} {of}{number}, line {line}"),
+        [(line, number), .., (last, its)] => {
+            format!("{} {noun}s, {of}{number} in line {line} to {its} in line {last}", shown.len())
+        }
     }
+}
+
+/// Whether the answer to a C or K line shows what a case tries: its refusal, a strike, or any car.
+fn shows(name: &str, letter: u8, answer: &str) -> bool {
+    match name.strip_prefix("refusal-").and_then(refusal) {
+        Some(number) => answer.starts_with('X') && answer.ends_with(&format!("{number:>9}")),
+        None => letter == if tries_strikes(name) { b'K' } else { b'C' },
+    }
+}
+
+fn tries_strikes(name: &str) -> bool {
+    let refused = name.strip_prefix("refusal-").and_then(refusal);
+    refused.map_or(name.contains("strike"), |number| number == 30)
 }

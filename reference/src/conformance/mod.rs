@@ -25,6 +25,7 @@ mod sources;
 mod span_order;
 mod spans;
 pub mod steps;
+mod strikes;
 mod tables;
 mod tenths;
 mod tenths_partings;
@@ -73,6 +74,7 @@ pub fn cases() -> Vec<Case> {
         repeats::cases(),
         wide::cases(),
         totals::cases(),
+        strikes::cases(),
     ]
     .into_iter()
     .flatten()

@@ -14,8 +14,6 @@ fn of_sheets() -> Vec<Case> {
     let five_tables: String =
         (1..=5).map(|car_type| format!("T {car_type} 2\nR 0 0\nR 9 9\n")).collect();
     let five_tables = columns(&format!("{five_tables}E 0"));
-    let sixty_one: Vec<Car> = (1..=61).map(|number| Car { number, ..CAR }).collect();
-    let sixty_one = cars_on(TABLE, &sixty_one);
     let first_and_later = change(&change(&rack, 3, b"1000", b"   0"), 4, b"R", b"Q");
     let bad_car_and_end = change(&change(&rack, 6, b"    3 ", b"    9 "), 7, b"1", b"3");
     vec![
@@ -45,16 +43,6 @@ fn of_sheets() -> Vec<Case> {
             "order-06-before-07-fifth-table",
             change(&five_tables, 13, b" 2\n", b"02\n"),
             "Z 13 6",
-        ),
-        Case::new(
-            "order-05-before-09-sixty-first-car",
-            change(&sixty_one, 66, b" 20\n", b" 20 \n"),
-            "Z 66 5",
-        ),
-        Case::new(
-            "order-06-before-09-sixty-first-car",
-            change(&sixty_one, 66, b" 20\n", b"020\n"),
-            "Z 66 6",
         ),
         Case::new(
             "order-count-before-bytes-after-end",

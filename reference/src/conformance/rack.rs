@@ -3,6 +3,7 @@
 use super::text::columns;
 use super::Case;
 use crate::car::{Car, FIELDS};
+use crate::sheet::Event;
 
 /// The table of the paper's sheet.
 pub const TABLE: &str = "
@@ -62,14 +63,27 @@ pub fn sheet() -> Vec<u8> {
 
 /// A sheet of the given tables and cars.
 pub fn cars_on(tables: &str, cars: &[Car]) -> Vec<u8> {
+    let events: Vec<Event> = cars.iter().map(|car| Event::Enter(*car)).collect();
+    events_on(tables, &events)
+}
+
+/// A sheet of the given tables, cars and strikes.
+pub fn events_on(tables: &str, events: &[Event]) -> Vec<u8> {
     let mut text = String::from(tables);
-    for car in cars {
-        text.push_str("\nC");
-        for number in <[u32; FIELDS]>::from(*car) {
-            text.push_str(&format!(" {number}"));
+    let mut cars = 0;
+    for event in events {
+        match event {
+            Event::Enter(car) => {
+                text.push_str("\nC");
+                for number in <[u32; FIELDS]>::from(*car) {
+                    text.push_str(&format!(" {number}"));
+                }
+                cars += 1;
+            }
+            Event::Strike(number) => text.push_str(&format!("\nK {number}")),
         }
     }
-    text.push_str(&format!("\nE {}", cars.len()));
+    text.push_str(&format!("\nE {cars}"));
     columns(&text)
 }
 

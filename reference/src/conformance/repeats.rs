@@ -1,4 +1,4 @@
-//! Car numbers that stand on an earlier line, whichever it is and whatever became of its car (11).
+//! Car numbers that the train holds, whichever its line is and whatever became of its car (11).
 
 use super::rack::{cars_on, totals, CAR, NONE_ACCEPTED, TABLE};
 use super::Case;
@@ -47,8 +47,8 @@ fn sixty_times(name: &'static str, number: u32, refusal: u32) -> Case {
     Case::new(name, cars_on(TABLE, &[Car { number, ..CAR }; 60]), &listing)
 }
 
-/// The number of a car refused by each of 12 to 21 counts.
-fn refused_before() -> Case {
+/// Cars refused by 12 to 21, each with its refusal for a number.
+pub fn refused() -> Vec<Car> {
     let sound = Car { grade: 1, water: 0, impurities: 0, density: 9400, ..CAR };
     let refused = [
         Car { car_type: 2, ..sound },
@@ -62,15 +62,17 @@ fn refused_before() -> Case {
         Car { water: 31, ..sound },
         Car { density: 9585, ..sound },
     ];
-    let numbers = 12..;
-    let cars: Vec<Car> =
-        refused.iter().zip(numbers).map(|(car, number)| Car { number, ..*car }).collect();
+    refused.iter().zip(12..).map(|(car, number)| Car { number, ..*car }).collect()
+}
+
+/// The number of a car refused by each of 12 to 21 counts.
+fn refused_before() -> Case {
     let seconds = (12..=21).map(|number| Car { number, ..CAR });
     let listing: String = (12..=21)
         .map(|number| format!("X {number} {number}\n"))
         .chain((12..=21).map(|number| format!("X {number} 11\n")))
         .collect();
-    let cars: Vec<Car> = cars.into_iter().chain(seconds).collect();
+    let cars: Vec<Car> = refused().into_iter().chain(seconds).collect();
     Case::new(
         "refusal-11-numbers-of-cars-refused-by-12-to-21",
         cars_on(TABLE, &cars),

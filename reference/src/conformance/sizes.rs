@@ -1,9 +1,10 @@
-//! Sheets of all sizes: none, few and sixty cars, one to five tables, the longest sheet and longer.
+//! Sheets of all sizes: none, few, sixty and 120 cars, one to five tables, the longest sheet and longer.
 
-use super::rack::{self, cars_on, totals, CAR, NONE_ACCEPTED, TABLE};
+use super::rack::{self, cars_on, events_on, totals, CAR, NONE_ACCEPTED, TABLE};
 use super::text::columns;
 use super::Case;
 use crate::car::Car;
+use crate::sheet::Event::{self, Enter, Strike};
 
 const FOUR_TABLES: &str = "
     T 4 2
@@ -21,13 +22,13 @@ const FOUR_TABLES: &str = "
     R 2810 70865";
 
 pub fn cases() -> Vec<Case> {
-    let sixty = sixty_cars(1);
+    let sixty = sixty_cars();
     let mut sixty_one = sixty.clone();
     sixty_one.push(Car { number: 61, ..CAR });
 
     let tables = format!("{TABLE}\n{FOUR_TABLES}").replace("T 1 2", "T 5 2");
-    let full = cars_on(&full_tables(), &sixty_cars(4));
-    let one_byte_more = [full.as_slice(), b"\n"].concat();
+    let longest = events_on(&full_tables(), &sixty_and_sixty_more());
+    let one_byte_more = [longest.as_slice(), b"\n"].concat();
 
     vec![
         Case::new("accepted-no-cars", cars_on(TABLE, &[]), NONE_ACCEPTED),
@@ -90,19 +91,45 @@ pub fn cases() -> Vec<Case> {
             cars_on(TABLE, &sixty),
             &sixty_lines("15000 3500000 3392515 32229 32003", &totals(60, 1_933_740, 1_920_180)),
         ),
-        Case::new("refusal-09-sixty-first-car", cars_on(TABLE, &sixty_one), "Z 66 9"),
         Case::new(
-            "accepted-longest-sheet-39771-bytes",
-            full,
-            &sixty_lines("15000 8333333 8077416 76735 76198", &totals(60, 4_604_100, 4_571_880)),
+            "refusal-09-sixty-first-car",
+            cars_on(TABLE, &sixty_one),
+            &sixty_lines(
+                "15000 3500000 3392515 32229 32003",
+                &format!("X 61 9\n{}", totals(60, 1_933_740, 1_920_180)),
+            ),
         ),
-        Case::new("refusal-02-sheet-of-39772-bytes", one_byte_more, "Z 0 2"),
+        Case::new("accepted-longest-sheet-48111-bytes", longest, &longest_listing()),
+        Case::new("refusal-02-sheet-of-48112-bytes", one_byte_more, "Z 0 2"),
+        Case::new("refusal-02-sheet-of-65775-bytes-239-in-16-bits", cut_to_the_first(), "Z 0 2"),
     ]
 }
 
-/// Sixty cars alike but for their numbers, spread over so many types.
-fn sixty_cars(types: u32) -> Vec<Car> {
-    (1..=60).map(|number| Car { number, car_type: 1 + number % types, ..CAR }).collect()
+/// The paper's table and first car, 239 bytes, and 65,536 line feeds behind them.
+fn cut_to_the_first() -> Vec<u8> {
+    [rack::sheet(), vec![b'\n'; 65_536]].concat()
+}
+
+/// Sixty cars alike but for their numbers.
+fn sixty_cars() -> Vec<Car> {
+    (1..=60).map(|number| Car { number, ..CAR }).collect()
+}
+
+/// Sixty cars, then sixty times one struck and another in its place.
+fn sixty_and_sixty_more() -> Vec<Event> {
+    let car = |number: u32| Enter(Car { number, car_type: 1 + number % 4, ..CAR });
+    let sixty = (1..=60).map(car);
+    sixty.chain((1..=60).flat_map(|number| [Strike(number), car(60 + number)])).collect()
+}
+
+/// What they give, in 7,561 bytes. No listing is longer, though an answer buffer has 8,101 bytes, room for
+/// 120 accepted cars and sixty refused strikes: a train holds sixty, so that each car accepted past sixty
+/// wants a strike that is answered, in 11 bytes where a refused one has 20.
+fn longest_listing() -> String {
+    let line = |number: u32| format!("A {number} 15000 8333333 8077416 76735 76198\n");
+    let sixty = (1..=60).map(line);
+    let more = (1..=60).map(|number| format!("K {number}\n{}", line(60 + number)));
+    sixty.chain(more).chain([totals(60, 4_604_100, 4_571_880)]).collect()
 }
 
 /// The listing of sixty cars alike.

@@ -6,7 +6,7 @@ use super::Case;
 use crate::car::Car;
 
 /// A car that every grade takes, with a net mass of its own.
-fn car(grade: u32, level: u32) -> Car {
+pub fn car(grade: u32, level: u32) -> Car {
     let readings = [level, level, 0, 0];
     Car { grade, readings, density: 9400, water: 30, impurities: 10, ..CAR }
 }
@@ -340,19 +340,12 @@ fn without(name: &'static str, grade: u32, listing: &str) -> Case {
 /// Sixty cars: each of another mass, of grades 4, 3, 1 and 2 by falling count; and all of one grade
 /// and as heavy as any, with totals of eight digits.
 fn full() -> Vec<Case> {
-    let grades = [4, 1, 3, 4, 2, 4, 1, 3, 4, 3];
-    let mixed: Vec<Car> = (0..60)
-        .zip(grades.iter().cycle())
-        .map(|(place, &grade)| car(grade, 2950 - 47 * place))
-        .collect();
-    let table = "T 1 2\nR 0 0\nR 3600 200000";
-    let heavy = Car { density: 9900, temperature: 400, water: 1, impurities: 0, ..car(4, 3600) };
-    let heaviest: Vec<Car> = (1..=60).map(|number| Car { number, ..heavy }).collect();
+    let heaviest: Vec<Car> = (1..=60).map(|number| Car { number, ..heaviest() }).collect();
     vec![
-        numbered("totals-of-sixty-cars", &mixed, include_str!("totals.txt")),
+        numbered("totals-of-sixty-cars", &sixty_of_all_grades(), include_str!("totals.txt")),
         Case::new(
             "totals-of-the-heaviest-train",
-            cars_on(table, &heaviest),
+            cars_on(TALLEST, &heaviest),
             &sixty_lines(
                 "36000 20000000 19677048 194803 194784",
                 "S 60 11688180 11687040
@@ -363,4 +356,21 @@ fn full() -> Vec<Case> {
             ),
         ),
     ]
+}
+
+/// Each of another mass, of all grades.
+pub fn sixty_of_all_grades() -> Vec<Car> {
+    let grades = [4, 1, 3, 4, 2, 4, 1, 3, 4, 3];
+    (0..60)
+        .zip(grades.iter().cycle())
+        .map(|(place, &grade)| car(grade, 2950 - 47 * place))
+        .collect()
+}
+
+/// A table up to both limits.
+pub const TALLEST: &str = "T 1 2\nR 0 0\nR 3600 200000";
+
+/// No car is heavier.
+pub fn heaviest() -> Car {
+    Car { density: 9900, temperature: 400, water: 1, impurities: 0, ..car(4, 3600) }
 }

@@ -31,7 +31,7 @@ pub const fn fields(letter: u8) -> Option<usize> {
     match letter {
         b'T' | b'R' | b'X' | b'Z' => Some(2),
         b'C' => Some(car::FIELDS),
-        b'E' => Some(1),
+        b'K' | b'E' => Some(1),
         b'A' => Some(6),
         b'S' => Some(3),
         b'G' => Some(4),
@@ -48,7 +48,7 @@ pub fn read_line(text: &[u8]) -> Result<(u8, Vec<u32>), Refusal> {
     let numbers = match letter {
         b'T' | b'R' => line::read::<2>(line)?.to_vec(),
         b'C' => line::read::<{ car::FIELDS }>(line)?.to_vec(),
-        b'E' => line::read::<1>(line)?.to_vec(),
+        b'K' | b'E' => line::read::<1>(line)?.to_vec(),
         _ => return Err(Refusal::Letter),
     };
     Ok((letter, numbers))
@@ -203,4 +203,9 @@ pub fn permitted_error(
 /// A car entered in a train with the tables that are handed in with it: refusals 7 to 21 and 23.
 pub fn enter(train: &mut Train, handed_in: &[HandedIn], car: &Car) -> Result<Figures, Refusal> {
     train.enter(car, &check_tables(handed_in)?)
+}
+
+/// The car with a number struck from a train: refusals 9 and 30.
+pub fn strike(train: &mut Train, number: u32) -> Result<(), Refusal> {
+    train.strike(number)
 }

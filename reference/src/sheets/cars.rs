@@ -48,7 +48,8 @@ fn highest_below(level: u64) -> u32 {
     ((level - 1) / 10) as u32
 }
 
-fn draw_number(random: &mut Random) -> u32 {
+/// A car number, at times at the ends of the range.
+pub fn draw_number(random: &mut Random) -> u32 {
     match random.below(20) {
         0 => random.pick(&[1, 2, 99_999_998, 99_999_999]),
         1 => random.between(1, 60),
@@ -86,8 +87,9 @@ fn draw_level(random: &mut Random, table: &Table) -> u32 {
     level.clamp(1, highest)
 }
 
-/// Makes one or two rules for cars turn the car away, or come close to it.
-pub fn spoil(random: &mut Random, car: &mut Car, tables: &[Table], earlier: &[Car]) {
+/// Makes one or two rules for cars turn the car away, or come close to it; `earlier` are the numbers of
+/// the cars before it.
+pub fn spoil(random: &mut Random, car: &mut Car, tables: &[Table], earlier: &[u32]) {
     let times = random.pick(&[1, 1, 1, 2]);
     for _ in 0..times {
         spoil_once(random, car, tables, earlier);
@@ -102,7 +104,7 @@ fn raise(random: &mut Random, car: &mut Car) {
     *car = Car::from(fields);
 }
 
-fn spoil_once(random: &mut Random, car: &mut Car, tables: &[Table], earlier: &[Car]) {
+fn spoil_once(random: &mut Random, car: &mut Car, tables: &[Table], earlier: &[u32]) {
     let table = tables.iter().find(|table| table.car_type == car.car_type);
     let highest = table.and_then(|table| table.rows.last()).map_or(1, |row| row.level);
     match random.below(18) {
@@ -114,12 +116,12 @@ fn spoil_once(random: &mut Random, car: &mut Car, tables: &[Table], earlier: &[C
 }
 
 /// Refusals 10 to 13.
-fn spoil_kind(random: &mut Random, car: &mut Car, earlier: &[Car]) {
+fn spoil_kind(random: &mut Random, car: &mut Car, earlier: &[u32]) {
     match random.below(6) {
         0 => car.number = 0,
         1 | 2 => {
             if !earlier.is_empty() {
-                car.number = earlier[random.below(earlier.len())].number;
+                car.number = random.pick(earlier);
             }
         }
         3 => car.car_type = random.pick(&[0, car.car_type + 1, 10_000, FAR]),

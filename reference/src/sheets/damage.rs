@@ -4,7 +4,16 @@ use super::random::Random;
 use crate::field::COLUMNS;
 
 /// Bytes that a damaged sheet may hold in any place.
-const STRAY: &[u8] = b" \n\r\t0123456789TRCEZAXSG+-.,#\x00\x0b\x7f\x80\xa0\xff";
+const STRAY: &[u8] = b" \n\r\t0123456789TRCKEZAXSG+-.,#\x00\x0b\x7f\x80\xa0\xff";
+
+/// Lines that are sound by themselves, mostly strikes.
+const SOUND_LINES: &[&[u8]] = &[
+    b"K 50000001\n",
+    b"K 50000001\n",
+    b"K        0\n",
+    b"T        1        2\n",
+    b"R        1        1\n",
+];
 
 /// A few stray bytes that are no sheet.
 pub fn noise(random: &mut Random) -> Vec<u8> {
@@ -46,7 +55,8 @@ fn damage_ends(random: &mut Random, mut sheet: Vec<u8>) -> Vec<u8> {
             sheet
         }
         3 => {
-            sheet.truncate(random.below(sheet.len() + 1));
+            let place = draw_place(random, &sheet);
+            sheet.truncate(place);
             sheet
         }
         4 => {
@@ -99,25 +109,31 @@ fn draw_place(random: &mut Random, sheet: &[u8]) -> usize {
     start + random.below(end - start)
 }
 
-/// Start and end of a line of a random letter, its line feed included.
+/// Start and end of a line of a random letter that the sheet has, its line feed included. Two in three
+/// sheets have no K, so that K is drawn twice as often where it is.
 fn draw_line(random: &mut Random, sheet: &[u8]) -> (usize, usize) {
-    let letter = random.pick(b"TRCE");
     let mut lines = Vec::new();
     let mut start = 0;
     for line in sheet.split_inclusive(|&byte| byte == b'\n') {
         lines.push((start, start + line.len()));
         start += line.len();
     }
-    let of_letter: Vec<_> =
-        lines.iter().copied().filter(|&(start, _)| sheet[start] == letter).collect();
-    random.pick(if of_letter.is_empty() { &lines } else { &of_letter })
+    let with = |letter| lines.iter().copied().filter(move |&(start, _)| sheet[start] == letter);
+    let letters: Vec<u8> =
+        b"TRCKKE".iter().copied().filter(|&letter| with(letter).next().is_some()).collect();
+    if letters.is_empty() {
+        return random.pick(&lines);
+    }
+    let letter = random.pick(&letters);
+    let of_letter: Vec<_> = with(letter).collect();
+    random.pick(&of_letter)
 }
 
 /// A line removed, doubled, exchanged with another, emptied, or with a letter, length or end
-/// that is not its own.
+/// that is not its own, or a sound line beside it that may stand in a wrong place.
 fn damage_line(random: &mut Random, mut sheet: Vec<u8>) -> Vec<u8> {
     let (start, end) = draw_line(random, &sheet);
-    match random.below(9) {
+    match random.below(11) {
         0 => {
             sheet.drain(start..end);
         }
@@ -130,10 +146,14 @@ fn damage_line(random: &mut Random, mut sheet: Vec<u8>) -> Vec<u8> {
         4 => {
             sheet.splice(start..end, *b"\n");
         }
-        5 => sheet[start] = random.pick(b"TRCEtrce \x00ZG"),
+        5 => sheet[start] = random.pick(b"TRCKEtrcke \x00ZG"),
         6 => sheet.insert(end - 1, random.pick(b" \r0\n")),
         7 => {
             sheet.splice(start..start, *b" ");
+        }
+        8 | 9 => {
+            let place = random.pick(&[start, end]);
+            sheet.splice(place..place, random.pick(SOUND_LINES).iter().copied());
         }
         _ => {
             sheet.remove(end - 1);
@@ -159,16 +179,20 @@ pub fn damage_one_field(random: &mut Random, sheet: Vec<u8>) -> Vec<u8> {
     damage_field(random, sheet)
 }
 
-/// The C lines in another order, one of them at times doubled in place of another.
-pub fn shuffle_cars(random: &mut Random, sheet: &[u8]) -> Vec<u8> {
+/// The lines of cars and strikes in another order, one of them at times doubled in place of another of
+/// its letter.
+pub fn shuffle_history(random: &mut Random, sheet: &[u8]) -> Vec<u8> {
     let mut lines: Vec<&[u8]> = sheet.split_inclusive(|&byte| byte == b'\n').collect();
-    let cars: Vec<usize> = (0..lines.len()).filter(|&place| lines[place][0] == b'C').collect();
-    for &place in &cars {
-        lines.swap(place, random.pick(&cars));
+    let places: Vec<usize> =
+        (0..lines.len()).filter(|&place| b"CK".contains(&lines[place][0])).collect();
+    for &place in &places {
+        lines.swap(place, random.pick(&places));
     }
-    if !cars.is_empty() && random.one_in(2) {
-        let (from, to) = (random.pick(&cars), random.pick(&cars));
-        lines[to] = lines[from];
+    if !places.is_empty() && random.one_in(2) {
+        let (from, to) = (random.pick(&places), random.pick(&places));
+        if lines[from][0] == lines[to][0] {
+            lines[to] = lines[from];
+        }
     }
     lines.concat()
 }

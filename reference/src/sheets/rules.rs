@@ -4,14 +4,14 @@ use super::cars;
 use super::draft::Draft;
 use super::random::Random;
 use super::tables::{self, Table};
-use crate::car::Car;
+use crate::sheet::{Event, CAR_LINES, STRIKE_LINES};
 use crate::table::{Row, ROWS};
 use crate::train::CARS;
 
 /// Bends one rule.
 pub fn bend(random: &mut Random, draft: &mut Draft) {
     let place = random.below(draft.tables.len());
-    match random.below(16) {
+    match random.below(18) {
         0 => draft.tables[place].car_type = random.pick(&[0, 1, 9_999, 10_000, 99_999_999]),
         1 => draft.tables[place].car_type = draft.tables[random.below(draft.tables.len())].car_type,
         2 => draft.tables[place].announced = random.pick(&[0, 1, 2, 400, 401, 99_999_999]),
@@ -22,10 +22,12 @@ pub fn bend(random: &mut Random, draft: &mut Draft) {
         9 | 10 => bend_limit(random, &mut draft.tables[place]),
         11 => drop_or_add_row(random, &mut draft.tables[place]),
         12 | 13 => fill_with_cars(random, draft),
-        14 => draft.end = Some(random.pick(&[0, 1, 60, 61, 99_999_999])),
+        14 | 15 => fill_with_strikes(random, draft),
+        16 => draft.end = Some(random.pick(&[0, 1, 60, 61, 120, 121, 99_999_999])),
         _ => {
-            let cars = draft.cars.len() as u32;
-            draft.end = Some(random.pick(&[cars.saturating_sub(1), cars, cars + 1]));
+            let cars = draft.cars() as u32;
+            let with_strikes = draft.events.len() as u32;
+            draft.end = Some(random.pick(&[cars.saturating_sub(1), cars, cars + 1, with_strikes]));
         }
     }
 }
@@ -96,11 +98,24 @@ fn drop_or_add_row(random: &mut Random, table: &mut Table) {
     }
 }
 
-/// Sixty or sixty-one cars.
+/// As many cars as a train or a sheet takes, or one more.
 fn fill_with_cars(random: &mut Random, draft: &mut Draft) {
-    let count = CARS + random.below(2);
-    while draft.cars.len() < count {
-        let car: Car = cars::draw(random, &draft.tables);
-        draft.cars.push(car);
+    let count = random.pick(&[CARS, CAR_LINES]) + random.below(2);
+    for _ in draft.cars()..count {
+        draft.events.push(Event::Enter(cars::draw(random, &draft.tables)));
+    }
+}
+
+/// As many strikes as a sheet takes, or one more, anywhere among the cars.
+fn fill_with_strikes(random: &mut Random, draft: &mut Draft) {
+    let count = STRIKE_LINES + random.below(2);
+    for _ in draft.events.len() - draft.cars()..count {
+        let place = random.below(draft.events.len() + 1);
+        let number = match draft.events[..place].last() {
+            Some(Event::Enter(car)) => car.number,
+            Some(Event::Strike(number)) if random.one_in(2) => *number,
+            _ => cars::draw_number(random),
+        };
+        draft.events.insert(place, Event::Strike(number));
     }
 }

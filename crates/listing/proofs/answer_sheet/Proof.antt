@@ -1,8 +1,11 @@
 -- `listing::answer_sheet` meets its contract: 1 with nothing written, the Z line, or the listing; and what is listed is reconciled with the book.
+use Prim.Native.Nat.{_+_, _≤_}
 use native.Mathlib.Omega.{arith}
 use borrow.Author.Needs.{needs}
 use denote.Ref.{now}
+use Rattle.base.specs.Limits.{mostCarLines, mostStrikes}
 use Rattle.answers.proofs.Reconciled.{too-short, answered}
+use Rattle.listing.proofs.Run.{few-lines}
 use Rattle.listing.proofs.Read.{refused-read, whole-read, refused-proper, whole-proper}
 use Rattle.listing.proofs.answer_sheet.Statement.{statement}
 use Rattle.listing.proofs.answer_sheet.Tie as tie
@@ -30,15 +33,27 @@ write-refused-requires c κs =
 enum-told : tie.Need-enum-told
 enum-told c = search needs
 
+-- a whole sheet has no more lines behind its tables than it may
+few : (c : tie.After-struct-known) → let r = c .before .before .before .before .before .before .before in r .read-sheet .result .cars + r .read-sheet .result .struck ≤ mostCarLines + mostStrikes
+few c =
+    let o = c .before .before .before .before .before in
+    let r = o .before .before in
+    few-lines (r .read-sheet .last .1 .1 .1 .0) (r .read-sheet .result .cars + r .read-sheet .result .struck) (r .read-sheet .ensures .2 .few-cars (o .enum-told .given .1)) (r .read-sheet .ensures .2 .few-strikes (o .enum-told .given .1))
+
+add-write-listing : tie.Need-add-write-listing
+add-write-listing c = search (needs, few c)
+
 write-listing-requires : tie.Need-write-listing-requires
 write-listing-requires c κs =
-    let o = c .before .before .before .before in
+    let o = c .before .before .before .before .before in
     let r = o .before .before in
     let b = r .before .before .before .before in
     let s = b .before .before .before in
     record {
       good = r .read-sheet .ensures .2 .good (o .enum-told .given .1);
-      sixty = r .read-sheet .ensures .2 .sixty (o .enum-told .given .1);
+      few = few c;
+      few-cars = r .read-sheet .ensures .2 .few-cars (o .enum-told .given .1);
+      few-strikes = r .read-sheet .ensures .2 .few-strikes (o .enum-told .given .1);
       each = whole-proper (now (s .args .text)) (r .read-sheet .result) (r .read-sheet .last .1 .0) (r .read-sheet .last .1 .1 .0) (r .read-sheet .last .1 .1 .1 .0) (r .read-sheet .ensures .0) (o .enum-told .given .1) .each;
       space = omega (arith, b .if1 .left);
     }
@@ -62,7 +77,7 @@ same-length-2 c = search needs
 returns-3 : tie.Need-returns-3
 returns-3 c =
     let w = c .before .before in
-    let o = w .before .before .before .before .before in
+    let o = w .before .before .before .before .before .before in
     let r = o .before .before in
     let b = r .before .before .before .before in
     let s = b .before .before .before in
@@ -78,6 +93,7 @@ answer-sheet-spec =
     enum-known-outcome
     write-refused-requires
     enum-told
+    add-write-listing
     write-listing-requires
     same-length
     returns-2

@@ -33,9 +33,16 @@ returns-4 : tie.Need-returns-4
 unfolding letterOf
 returns-4 c = search (tests, c .letter-if4 .ensures)
 
+letter-if-requires-5 : tie.Need-letter-if-requires-5
+letter-if-requires-5 c κs = search needs
+
 returns-5 : tie.Need-returns-5
 unfolding letterOf
-returns-5 c = search tests
+returns-5 c = search (tests, c .letter-if5 .ensures)
+
+returns-6 : tie.Need-returns-6
+unfolding letterOf
+returns-6 c = search tests
 
 pub letter-of-spec : {M : Type 1} → statement M
 letter-of-spec =
@@ -49,4 +56,6 @@ letter-of-spec =
     returns-3
     letter-if-requires-4
     returns-4
-    returns-5)
+    letter-if-requires-5
+    returns-5
+    returns-6)

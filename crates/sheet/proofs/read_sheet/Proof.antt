@@ -60,7 +60,7 @@ returns c =
     let g = c .before .before in
     let a = g .before .before .args in
     let long : longest < length (now (a .s)) = omega (arith, c .before .if1 .taken) in
-    finish (now (a .s)) (record { outcome = RefusedAt 0 2; directory = g .started .result .directory; cars = _ }) (now (a .levels)) (now (a .capacities)) (now (a .fields))
+    finish (now (a .s)) (record { outcome = RefusedAt 0 2; directory = g .started .result .directory; cars = _; struck = _ }) (now (a .levels)) (now (a .capacities)) (now (a .fields))
     (sheet-long (now (a .s)) long)
     (λ line number e.
     tooLong (record {
@@ -123,7 +123,7 @@ returns-2 c =
     let p = stepBy (r .read-step .result .progress) st in
     let told = outcomeTold o (st .tables) (st .history) in
     let e = ap (λ (x : Progress). stepBy x st) (v .progress .given .1) in
-    finish s (record { outcome = o; directory = h .directory; cars = h .cars }) (r .read-step .last .1 .1 .0) (r .read-step .last .1 .1 .1 .0) (r .read-step .last .1 .1 .1 .1 .0)
+    finish s (record { outcome = o; directory = h .directory; cars = h .cars; struck = h .struck }) (r .read-step .last .1 .1 .0) (r .read-step .last .1 .1 .1 .0) (r .read-step .last .1 .1 .1 .1 .0)
     (is-over s (taken k) p (r .read-step .ensures) (on k .sound) st told e ∙ on k .same ∙ l .loop .inv .2)
     (λ line number z.
     let x = read-over s (taken k) p (r .read-step .ensures) (on k .sound) (on k .read (l .loop .inv .3)) st told e in

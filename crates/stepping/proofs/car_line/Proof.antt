@@ -1,13 +1,13 @@
--- `stepping::car_line` meets its contract: 9 for the sixty-first, else one more line.
+-- `stepping::car_line` meets its contract: 9 for the hundred and twenty-first, else one more line.
 use Prim.Native.Nat.{ℕ, _+_}
-use mathlib.Core.Path.{_≡_, ap, _∙_}
-use mathlib.Core.List.{List}
+use mathlib.Core.Path.{_≡_, ap₂, _∙_}
+use mathlib.Core.List.{List, _∷_}
 use native.Mathlib.Omega.{arith}
 use denote.Ref.{now}
 use lib.ListN.{length}
 use borrow.Author.Tests.{le-leb, lt-leb}
 use Rattle.reading.specs.Letter.{mostFields}
-use Rattle.holding.specs.Layout.{historyFrom}
+use Rattle.holding.specs.Layout.{linePlaces, carMark, historyFrom}
 use Rattle.holding.specs.Inner.{stateIn}
 use Rattle.holding.proofs.Arrays.{line-more}
 use Rattle.grammar.proofs.Rules.{car-refused, car-taken}
@@ -24,31 +24,35 @@ returns c = λ l d.
     c .refused-here .ensures l d (now (a .fields))
     ∙ car-refused (stateIn (a .reader) l d (now (a .fields))) (a .numbers) (le-leb _ _ (c .before .if1 .taken))
 
+add-store-line : tie.Need-add-store-line
+add-store-line c = search needs
+
 mul-store-line : tie.Need-mul-store-line
 mul-store-line c = search needs
 
 store-line-requires : tie.Need-store-line-requires
 store-line-requires c κs = search needs
 
-add-t9 : tie.Need-add-t9
-add-t9 c = search needs
+add-t10 : tie.Need-add-t10
+add-t10 c = search needs
+
+add-t13 : tie.Need-add-t13
+add-t13 c = search needs
 
 add-t11 : tie.Need-add-t11
 add-t11 c = search needs
-
-add-t12 : tie.Need-add-t12
-add-t12 c = search needs
 
 returns-2 : tie.Need-returns-2
 returns-2 c = λ l d.
     let w = c .before .before in
     let e = w .before .before in
     let a = e .before .before .args in
-    let n = a .reader .cars in
+    let n = a .reader .cars + a .reader .struck in
     let fourteen : length (a .numbers) ≡ mostFields = search needs in
+    let more : a .reader .cars + 1 + a .reader .struck ≡ n + 1 = omega arith in
     let h = e .if1 .left in
     car-taken (stateIn (a .reader) l d (now (a .fields))) (a .numbers) _ (lt-leb _ _ h)
-    (ap (λ (x : List ℕ). historyFrom x 0 (n + 1)) (w .store-line .ensures .0) ∙ line-more (now (a .fields)) (a .numbers) n fourteen (omega (arith, h, w .store-line .ensures .1)))
+    (ap₂ (λ (x : List ℕ) (i : ℕ). historyFrom x 0 i) (w .store-line .ensures .0) more ∙ line-more (now (a .fields)) (carMark ∷ a .numbers) n (omega (arith, fourteen)) (omega (arith, h, w .store-line .ensures .1, e .before .before .pre .few-strikes)))
 
 pub car-line-spec : {M : Type 1} → statement M
 car-line-spec =
@@ -56,9 +60,10 @@ car-line-spec =
     (tie.spec
     refused-here-requires
     returns
+    add-store-line
     mul-store-line
     store-line-requires
-    add-t9
+    add-t10
+    add-t13
     add-t11
-    add-t12
     returns-2)

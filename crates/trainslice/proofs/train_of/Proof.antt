@@ -1,35 +1,9 @@
--- `trainslice::train_of` meets its contract: the totals one after another, and the numbers behind them.
-use Prim.Native.Nat.{_-_}
-use mathlib.Core.Path.{_∙_}
-use native.Mathlib.Omega.{arith}
-use lib.ListN.{length, drop, length-drop}
-use lib.Seq.{take-all}
+-- `trainslice::train_of` meets its contract: the totals one after another, and the four rows behind them.
 use denote.Ref.{now}
 use Rattle.trainslice.proofs.Slice.{train-read}
 use borrow.Author.Needs.{needs}
 use Rattle.trainslice.proofs.train_of.Statement.{statement}
 use Rattle.trainslice.proofs.train_of.Tie as tie
-
-add-copy : tie.Need-add-copy
-add-copy c = search needs
-
-mul-copy : tie.Need-mul-copy
-mul-copy c = search needs
-
-sub-copy : tie.Need-sub-copy
-sub-copy c = search needs
-
-part-copy-start : tie.Need-part-copy-start
-part-copy-start c = search needs
-
-part-copy-end : tie.Need-part-copy-end
-part-copy-end c = search needs
-
-slice-aggregate-copy : tie.Need-slice-aggregate-copy
-slice-aggregate-copy c = search needs
-
-copy-requires : tie.Need-copy-requires
-copy-requires c κs = search needs
 
 totals-at-requires : tie.Need-totals-at-requires
 totals-at-requires c κs = search needs
@@ -55,32 +29,39 @@ totals-at-requires-4 c κs = search needs
 totals-at-requires-5 : tie.Need-totals-at-requires-5
 totals-at-requires-5 c κs = search needs
 
-shared-slice-read-t19 : tie.Need-shared-slice-read-t19
-shared-slice-read-t19 c = search needs
+shared-slice-read-t12 : tie.Need-shared-slice-read-t12
+shared-slice-read-t12 c = search needs
+
+row-at-requires : tie.Need-row-at-requires
+row-at-requires c κs = search needs
+
+row-at-requires-2 : tie.Need-row-at-requires-2
+row-at-requires-2 c κs = search needs
+
+row-at-requires-3 : tie.Need-row-at-requires-3
+row-at-requires-3 c κs = search needs
+
+row-at-requires-4 : tie.Need-row-at-requires-4
+row-at-requires-4 c κs = search needs
 
 returns : tie.Need-returns
 returns c =
-    let all = c .before in
+    let r3 = c .before in
+    let r2 = r3 .before in
+    let r1 = r2 .before in
+    let all = r1 .before .before in
     let d = all .before in
-    let b = d .before .before in
+    let g = d .before in
+    let b = g .before in
     let a = b .before in
-    let k = a .before .before in
-    let s = k .before .before .before .before in
-    let l = now (s .args .numbers) in
-    train-read l (a .totals-at .ensures) (b .totals-at2 .ensures) (d .before .totals-at3 .ensures) (d .totals-at4 .ensures) (all .totals-at5 .ensures)
-    (k .copy .ensures ∙ take-all (length l - 26) (drop 26 l) (omega (arith, length-drop 26 l)))
+    let s = a .before .before in
+    train-read (now (s .args .numbers)) (a .totals-at .ensures) (b .totals-at2 .ensures) (g .totals-at3 .ensures) (d .totals-at4 .ensures) (all .totals-at5 .ensures)
+    (r1 .row-at .ensures) (r2 .row-at2 .ensures) (r3 .row-at3 .ensures) (c .row-at4 .ensures)
 
 pub train-of-spec : {M : Type 1} → statement M
 train-of-spec =
     tie.close
     (tie.spec
-    add-copy
-    mul-copy
-    sub-copy
-    part-copy-start
-    part-copy-end
-    slice-aggregate-copy
-    copy-requires
     totals-at-requires
     mul-totals-at
     totals-at-requires-2
@@ -89,5 +70,9 @@ train-of-spec =
     mul-totals-at-3
     totals-at-requires-4
     totals-at-requires-5
-    shared-slice-read-t19
+    shared-slice-read-t12
+    row-at-requires
+    row-at-requires-2
+    row-at-requires-3
+    row-at-requires-4
     returns)

@@ -1,6 +1,7 @@
 //! Times the proved code beside the reference and beside a program tuned by hand, on the same
-//! sheets, and the permitted error of a car, the density at 15 °C of a report, the tape allowance at a
-//! level and a stick against the tape beside the reference's, in one run of some seconds.
+//! sheets, and a car entered in a train and struck from it, the permitted error of a car, the density at
+//! 15 °C of a report, the tape allowance at a level and a stick against the tape beside the reference's,
+//! in one run of some seconds.
 
 mod laboratory;
 mod permitted;
@@ -8,9 +9,11 @@ mod sheets;
 mod stick;
 mod tape;
 mod timing;
+mod trains;
 
 fn main() {
     sheets::compare_all();
+    trains::compare_all();
     permitted::compare_all();
     laboratory::compare_all();
     tape::compare_all();

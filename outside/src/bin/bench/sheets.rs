@@ -6,6 +6,9 @@ use reference::{sheets, ANSWER_BYTES, SHEET_BYTES};
 
 use crate::timing;
 
+/// Bytes of a sheet of four full tables and sixty cars.
+const FULL_BYTES: usize = 39_771;
+
 /// The sheet printed in the rules.
 const SMALL: &[u8] = include_bytes!("../../../../crates/rack/stdin");
 
@@ -18,7 +21,9 @@ const PROGRAMS: [Program; 3] =
 /// Prints a line for each kind of sheet.
 pub fn compare_all() {
     let full: Vec<Vec<u8>> = (0..8).map(sheets::full_sheet).collect();
-    assert!(full.iter().all(|sheet| sheet.len() == SHEET_BYTES));
+    assert!(full.iter().all(|sheet| sheet.len() == FULL_BYTES));
+    let fullest: Vec<Vec<u8>> = (0..8).map(sheets::fullest_sheet).collect();
+    assert!(fullest.iter().all(|sheet| sheet.len() == SHEET_BYTES));
     let half: Vec<Vec<u8>> = full.iter().map(|sheet| half_of(sheet)).collect();
     let refused: Vec<Vec<u8>> = full.iter().map(|sheet| with_wrong_end(sheet)).collect();
 
@@ -36,6 +41,7 @@ pub fn compare_all() {
     compare("half the length, 8 in turn", &half, 0);
     compare("full, 60 cars accepted, 8 in turn", &full, 0);
     compare("full, refused at its last line, 8 in turn", &refused, 9);
+    compare("fullest, 120 cars, 60 strikes, 8 in turn", &fullest, 0);
 }
 
 /// Prints the line of some sheets, all of which hand back the same number.
@@ -86,7 +92,7 @@ fn half_of(full: &[u8]) -> Vec<u8> {
 
 /// A sheet whose last line counts one car too few.
 fn with_wrong_end(full: &[u8]) -> Vec<u8> {
-    let mut sheet = full[..SHEET_BYTES - 11].to_vec();
+    let mut sheet = full[..FULL_BYTES - 11].to_vec();
     sheet.extend_from_slice(b"E       59\n");
     sheet
 }

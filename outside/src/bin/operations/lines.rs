@@ -8,8 +8,8 @@ use reference::operations;
 use crate::figures::ENDS;
 use crate::tally::{Tally, LENT};
 
-/// The letters of a sheet's lines, then those of an answer's.
-const LETTERS: [u8; 9] = *b"TRCEAXSGZ";
+/// The letters of a sheet's lines, of which K is an answer's too, then those of an answer's alone.
+const LETTERS: [u8; 10] = *b"TRCKEAXSGZ";
 
 /// A byte that no answer writes.
 const LENT_BYTE: u8 = 0xa5;
@@ -49,7 +49,7 @@ pub fn read_line(times: u64) -> Tally {
     for line in &lines {
         for end in 0..=line.len() {
             compare_read(&mut tally, &line[..end], FIELDS);
-            for byte in *b" 0\nG" {
+            for byte in *b" 0\nGK" {
                 let mut longer = line.clone();
                 longer.insert(end, byte);
                 compare_read(&mut tally, &longer, FIELDS);
@@ -65,7 +65,7 @@ pub fn read_line(times: u64) -> Tally {
     }
     let mut random = Random::new(2);
     for _ in 0..times {
-        let letter = random.pick(b"TRCETRCEAXSGZ");
+        let letter = random.pick(b"TRCKETRCKEAXSGZ");
         let highest = random.pick(&[0, 9, 9_999, 99_999_999]);
         let mut text = line(letter, |_| random.between(0, highest));
         for _ in 0..random.below(4) {
@@ -78,7 +78,7 @@ pub fn read_line(times: u64) -> Tally {
 
 /// Replaces, takes out or puts in a byte, or puts bytes behind.
 fn damage(random: &mut Random, text: &mut Vec<u8>) {
-    let byte = random.pick(b" 0123456789\n\n\rTRCEAXSGZ-+.\0\xff");
+    let byte = random.pick(b" 0123456789\n\n\rTRCKEAXSGZ-+.\0\xff");
     let place = random.below(text.len() + 1);
     match random.below(4) {
         0 if place < text.len() => text[place] = byte,

@@ -14,6 +14,8 @@ mod trains;
 
 use std::process::ExitCode;
 
+use tally::Tally;
+
 /// Inputs by lot where the caller names no count.
 const TIMES: u64 = 200_000;
 
@@ -47,7 +49,7 @@ fn main() -> ExitCode {
         cars::work_out(times).print(),
         permitted::permitted_error(times).print(),
         trains::train_empty().print(),
-        trains::train_enter(times).print(),
+        trains::enter_and_strike(times).map(Tally::print).iter().sum(),
     ];
     println!("{} inputs answered alike, numbers and all that is lent", inputs.iter().sum::<u64>());
     ExitCode::SUCCESS

@@ -8,6 +8,7 @@ pub mod laboratory;
 pub mod permitted;
 pub mod stick;
 pub mod tape;
+pub mod train;
 
 use std::str::FromStr;
 

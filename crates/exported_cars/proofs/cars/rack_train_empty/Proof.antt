@@ -26,7 +26,7 @@ returns-2 : tie.Need-returns-2
 returns-2 c =
     let w = c .before .before in
     let e = w .before .before in
-    handed-into figuresLeft _ (w .write-train .ensures ∙ ap trainNumbers (e .empty .ensures .0)) (right-sized (figures (trainNumbers emptyTrain)) (eq-eqb _ _ (e .before .if1 .left)))
+    handed-into figuresLeft _ (w .write-train .ensures .0 ∙ ap trainNumbers (e .empty .ensures .0)) (right-sized (figures (trainNumbers emptyTrain)) (eq-eqb _ _ (e .before .if1 .left)))
 
 pub rack-train-empty-spec : {M : Type 1} → statement M
 rack-train-empty-spec =

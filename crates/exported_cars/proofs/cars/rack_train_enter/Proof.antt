@@ -1,6 +1,6 @@
 -- `exported_cars::rack_train_enter` meets its contract: the train, the tables and the car that were copied are those that were lent.
 use Prim.Native.Nat.{ℕ, _<_}
-use mathlib.Core.Path.{_≡_, refl, sym, ap, _∙_}
+use mathlib.Core.Path.{_≡_, sym, ap, _∙_}
 use mathlib.Core.List.{List}
 use native.Mathlib.Omega.{arith}
 use lib.ListN.{getD}
@@ -10,7 +10,6 @@ use denote.Ref.{now}
 use Rattle.table.specs.Table.{Table}
 use Rattle.car.specs.declared.Car.{Car}
 use Rattle.consist.specs.Train.{Train, enterAnswer, enterTrain}
-use Rattle.consist.proofs.Entering.{entered-four}
 use Rattle.marshalling.specs.Handed.{figuresLeft}
 use Rattle.trainslice.specs.Layout.{half, trainNumbers}
 use Rattle.marshalling.proofs.Handed.{handed, handed-as, right-sized, wrong-sized}
@@ -85,9 +84,10 @@ returns-2 c =
     let t = e .before .before .before .before .train-of .ensures in
     let car = e .before .car-of .ensures in
     let n : (i : ℕ) → getD (now (start k .args .train)) i 0 < half = λ i. omega (arith, k .before .before .before .before .before .before .before .before .before .before .slice-known .given i) in
-    let r = train-sized _ _ _ _ _ _ _ (eq-eqb _ _ (k .before .before .before .if1 .left)) (sym (k .before .car-fits .ensures) ∙ k .if2 .taken) in (
+    let r = train-sized _ _ _ _ _ _ _ (eq-eqb _ _ (k .before .before .before .if1 .left)) (sym (k .before .car-fits .ensures) ∙ k .if2 .taken) in
+    let next = e .enter .ensures .1 ∙ same enterTrain ts t car in (
       handed-as (h .hand-over .ensures) (e .enter .ensures .0 ∙ same enterAnswer ts t car ∙ right-sized _ r),
-      train-handed (k .before .before .before .if1 .left) n (entered-four _ _ _ refl) r (w .write-train .ensures ∙ ap trainNumbers (e .enter .ensures .1 ∙ same enterTrain ts t car)),
+      train-handed (k .before .before .before .if1 .left) n r (w .write-train .ensures .0 ∙ ap trainNumbers next) (w .write-train .ensures .1 ∙ next),
     )
 
 same-length-3 : tie.Need-same-length-3

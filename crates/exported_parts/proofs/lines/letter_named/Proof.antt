@@ -44,6 +44,10 @@ returns-10 : tie.Need-returns-10
 unfolding letterNamed
 returns-10 c = search tests
 
+returns-11 : tie.Need-returns-11
+unfolding letterNamed
+returns-11 c = search tests
+
 pub letter-named-spec : {M : Type 1} → statement M
 letter-named-spec =
     tie.close
@@ -57,4 +61,5 @@ letter-named-spec =
     returns-7
     returns-8
     returns-9
-    returns-10)
+    returns-10
+    returns-11)

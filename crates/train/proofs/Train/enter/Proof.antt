@@ -1,10 +1,9 @@
 -- `Train::enter` meets its contract: the tables' refusals first, 9 of a train that is not sound, then `enter_on`; with it distance, filling order and the book.
-use mathlib.Core.Path.{_≡_, sym, _∙_}
+use mathlib.Core.Path.{_≡_, ap, sym, _∙_}
 use mathlib.Core.List.{List}
-use lib.ListN.{length}
+use native.Mathlib.Omega.{arith}
 use borrow.Author.Needs.{needs}
 use denote.Ref.{now}
-use Rattle.base.specs.Limits.{mostCars}
 use Rattle.base.specs.Answer.{Answer, refusal}
 use Rattle.table.specs.Table.{Table}
 use Rattle.table.specs.Layout.{tablesOf}
@@ -17,11 +16,14 @@ use Rattle.consist.specs.Book as book
 use Rattle.consist.specs.Demand3.{Close, InOrder, Continues, entered}
 use Rattle.consist.proofs.Taken.{close}
 use Rattle.consist.proofs.Order.{in-order}
-use Rattle.consist.specs.Examples.{EnterOrder}
-use Rattle.entering.specs.Lent.{lentTrain}
+use Rattle.consist.specs.HandedInExamples.{EnterOrder}
+use Rattle.consist.specs.declared.Tally.{Tally}
+use Rattle.consist.specs.Inner.{Sixty, SoundTrain}
+use Rattle.consist.specs.Lent.{lentTrain}
 use Rattle.consist.proofs.Book.{continues}
 use Rattle.consist.proofs.AgainstExamples.{enter-order}
 use Rattle.consist.proofs.Entering.{not-sound, tables-away, unsound-away}
+use Rattle.consist.proofs.Rows.{entered-placed, rows-sound, rows-entered}
 use Rattle.train.specs.Told.{trainTold}
 use Rattle.train.proofs.Train.enter.Statement.{statement}
 use Rattle.train.proofs.Train.enter.Tie as tie
@@ -38,8 +40,12 @@ whole : (ts : List Table) (t : Train) (c : Car) (a : Answer) (next : Train) → 
 whole ts t c a next (p, q) =
     (p, q, rw p (close ts (measured c) (enterAnswer ts t c) (entered t c)), rw p (in-order ts (measured c) (enterAnswer ts t c) (entered t c)), rw (p, q) (continues t (book.car ts c)), enter-order)
 
-sixty : (s : tie.Start) → length (s .args .self .numbers) ≡ mostCars
-sixty s = search needs
+sixty : (s : tie.Start) → Sixty (told s)
+sixty s = record { numbers = search needs; grades = search needs; grosses = search needs; nets = search needs }
+
+-- past 7 and 8, before the train is tested
+abbrev tested : tie.After-is-unsound → tie.Else1
+tested u = u .before .before .before .before .before .before .before .before .before .before
 
 -- past 7 and 8 the tables are good
 good : (c : tie.Else1) → let a = c .before .before .args in Good (a .d) (now (a .levels)) (now (a .capacities))
@@ -56,31 +62,57 @@ returns c =
     (tables-away (all s) (told s) (s .args .car) (c .before .check-tables .ensures) (c .if1 .taken))
 
 is-unsound-requires : tie.Need-is-unsound-requires
-is-unsound-requires c κs = search needs
+is-unsound-requires c κs = sixty (c .before .before .before .before .before .before .before .before .before .before .before)
 
 returns-2 : tie.Need-returns-2
 unfolding all
 returns-2 c =
     let u = c .before in
-    let l = u .before in
+    let l = tested u in
     let s = l .before .before in
     whole (all s) (told s) (s .args .car) (refusal 9) (told s)
     (unsound-away (all s) (told s) (s .args .car) (good l .accepted) (sym (u .is-unsound .ensures) ∙ c .if2 .taken))
 
+-- the train is sound
+sound : (p : tie.Else2) → SoundTrain (told (tested (p .before) .before .before))
+sound p = not-sound (told (tested (p .before) .before .before)) (sym (p .before .is-unsound .ensures) ∙ p .if2 .left)
+
+abbrev tally : tie.Start → Tally
+tally s = record { sums = s .args .self .sums; held = s .args .self .held }
+
 enter-on-requires : tie.Need-enter-on-requires
 enter-on-requires c κs =
-    let p = c .before .before .before in
-    let u = p .before in
-    let l = u .before in
+    let p = c .before .before .before .before in
+    let l = tested (p .before) in
     let s = l .before .before in
-    (sixty s, not-sound (told s) (sym (u .is-unsound .ensures) ∙ p .if2 .left), good l)
+    let t = s .args .self in
+    let k = rows-sound (tally s) (t .numbers) (t .grades) (t .grosses) (t .nets) (sound p) (sixty s) in
+    (k .0, k .1, good l)
+
+-- the answer and the rows are those of the train handed in
+entered-on : (e : tie.After-enter-on) → let s = tested (e .before .before .before .before .before .before) .before .before in let r = e .enter-on in
+    (carTold (r .result .answer) ≡ enterAnswer (all s) (told s) (s .args .car))
+    × (lentTrain (r .result .held) (r .last .1 .0) (r .last .1 .1 .0) (r .last .1 .1 .1 .0) (r .last .1 .1 .1 .1 .0) ≡ enterTrain (all s) (told s) (s .args .car))
+unfolding all
+entered-on e =
+    let p = e .before .before .before .before .before in
+    let s = tested (p .before) .before .before in
+    let t = s .args .self in
+    rows-entered (tally s) (t .numbers) (t .grades) (t .grosses) (t .nets) (sound p) (tablesOf (s .args .d) (now (s .args .levels)) (now (s .args .capacities))) (s .args .car) (e .enter-on .ensures)
+
+with-sums-requires : tie.Need-with-sums-requires
+with-sums-requires c κs =
+    let p = c .before .before .before .before .before in
+    let s = tested (p .before) .before .before in
+    omega (arith, ap (λ (t : Train). t .held) (entered-on c .1), entered-placed (told s) (sixty s) (sound p) (all s) (s .args .car) .few)
 
 returns-3 : tie.Need-returns-3
 unfolding all
 returns-3 c =
-    let e = c .before .before in
-    let s = e .before .before .before .before .before .before .before .before in
-    whole (all s) (told s) (s .args .car) (carTold (e .enter-on .result .answer)) (lentTrain (e .enter-on .result .tally) (e .enter-on .last .1 .0)) (e .enter-on .ensures)
+    let e = c .before in
+    let s = tested (e .before .before .before .before .before .before) .before .before in
+    let k = entered-on e in
+    whole (all s) (told s) (s .args .car) (carTold (e .enter-on .result .answer)) (trainTold (c .with-sums .result)) (k .0, c .with-sums .ensures ∙ k .1)
 
 pub enter-spec : {M : Type 1} → statement M
 enter-spec =
@@ -91,4 +123,5 @@ enter-spec =
     is-unsound-requires
     returns-2
     enter-on-requires
+    with-sums-requires
     returns-3)
