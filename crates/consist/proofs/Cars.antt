@@ -168,14 +168,6 @@ shown-snoc cars c = ap sumsOf (parts cars (c ∷ [])) ∙ by-car c
 pub sums-next : (t : Train) (n : ℕ) → sumsOf (shownIn (carsFrom t 0 (n + 1))) ≡ sumsMore (sumsOf (shownIn (carsFrom t 0 n))) (carAt t n)
 sums-next t n = ap (λ (l : List Held). sumsOf (shownIn l)) (cars-next t n) ∙ shown-snoc (carsFrom t 0 n) (carAt t n)
 
--- a car adds the same, whatever its number
-pub more-number : (sums : Sums) (m n grade x y : ℕ) → sumsMore sums (heldAs m grade x y) ≡ sumsMore sums (heldAs n grade x y)
-more-number sums m n grade x y = go (eqb grade 0)
-  where
-    go : (b : Bool) → sumsMore sums (cond b (refused m) (weighed m (record { grade = grade; gross = x; net = y }))) ≡ sumsMore sums (cond b (refused n) (weighed n (record { grade = grade; gross = x; net = y })))
-    go true = refl
-    go false = refl
-
 -- The sums without one of the held cars are those of the others.
 
 sums-out : (pre : List Shown) (cars : List Held) (k : ℕ) (d : Held) → k < length cars

@@ -122,7 +122,7 @@ pub record Reconciled (items : List Item) : Type 0 where
   pub sums : trainFrom emptyTrain items .sums ≡ sumsOf (shown items (answersFrom emptyTrain items))
   -- these cars, read off the history, are the book's entries with masses
   pub history : loads (bookFrom [] items) ≡ map loadIn (standing items (answersFrom emptyTrain items))
-  -- none of them was taken by a strike, and each of the others was: the first strike behind it was answered with its number
+  -- the first strike of its number behind an accepted car always finds it, so that a car does not count exactly where a strike took it
   pub found : Found items (answersFrom emptyTrain items)
   -- those of all cars are the sums of the grades'
   pub split : trainFrom emptyTrain items .sums .all ≡ together (trainFrom emptyTrain items .sums .grades)

@@ -22,15 +22,16 @@ noCars = sumsFrom noTotals noTotals noTotals noTotals noTotals
 abbrev ofThree : Totals → Sums
 ofThree t = sumsFrom t noTotals noTotals t noTotals
 
--- a refused car of a number, so many in all
+-- so many refused cars, the first of this number
 abbrev ofNumber : ℕ → ℕ → Train
 ofNumber held number = trainOf noCars held (number ∷ []) [] [] []
 
--- sixty refused cars
+-- the numbers from n down to 1
 abbrev upTo : ℕ → List ℕ
 upTo zero = []
 upTo (suc n) = suc n ∷ upTo n
 
+-- sixty refused cars
 abbrev sixty : Train
 sixty = trainOf noCars mostCars (upTo mostCars) [] [] []
 

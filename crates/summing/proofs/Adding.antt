@@ -163,21 +163,8 @@ grade-low {s} h i k =
 
 -- Sums of n cars, whatever they are.
 
-small-more : {n : ℕ} {t : Totals} (s : Shown) → Small n t → s .gross ≤ 4_294_967_295 → s .net ≤ 4_294_967_295 → Small (n + 1) (withCar s t)
-small-more s h p q = record { few = omega (arith, h .few); gross-low = omega (arith, h .gross-low); net-low = omega (arith, h .net-low) }
-
-small-next : {n : ℕ} {t : Totals} → Small n t → Small (n + 1) t
+pub small-next : {n : ℕ} {t : Totals} → Small n t → Small (n + 1) t
 small-next h = record { few = omega (arith, h .few); gross-low = omega (arith, h .gross-low); net-low = omega (arith, h .net-low) }
-
-room-grades : {n : ℕ} (s : Shown) (g : ℕ) (ts : List Totals) → s .gross ≤ 4_294_967_295 → s .net ≤ 4_294_967_295 → ((k : ℕ) → Small n (getD ts k noTotals))
-    → (k : ℕ) → Small (n + 1) (getD (gradeChanged (withCar s) (s .grade) g ts) k noTotals)
-room-grades s g [] p q h k = small-next (h k)
-room-grades s g (t ∷ ts) p q h zero =
-    cond-either (Small _) (eqb (s .grade) g) (withCar s t) t (λ _. small-more s (h zero) p q) (λ _. small-next (h zero))
-room-grades s g (t ∷ ts) p q h (suc k) = room-grades s (g + 1) ts p q (λ i. h (suc i)) k
-
-pub room-more : {n : ℕ} {x : Sums} (s : Shown) → Room n x → s .gross ≤ 4_294_967_295 → s .net ≤ 4_294_967_295 → Room (n + 1) (sumsWith x s)
-room-more {x = x} s h p q = record { all = small-more s (h .all) p q; grade = room-grades s 1 (x .grades) p q (h .grade) }
 
 pub room-next : {n : ℕ} {x : Sums} → Room n x → Room (n + 1) x
 room-next h = record { all = small-next (h .all); grade = λ k. small-next (h .grade k) }
@@ -223,7 +210,6 @@ module _ (change : Totals → Totals) (grade : ℕ) where
   pub grade-none : (g : ℕ) (ts : List Totals) → g + length ts ≤ grade → gradeChanged change grade g ts ≡ ts
   grade-none g [] h = refl
   grade-none g (t ∷ ts) h = rw (ne-eqb grade g (λ e. omega arith)) (ap (λ (l : List Totals). t ∷ l) (grade-none (g + 1) ts (omega arith)))
-  -- what stands there then
 
 -- Equality as a test.
 

@@ -1,11 +1,11 @@
 // Accepted cars and their total masses, of all cars and of each grade: with one car more, whether two are the same, and whether those of all are the sums of
 // the grades'.
 ghost use mathlib.Core.Path.{_≡_};
-ghost use Prim.Native.Nat.{_+_, _≤_};
+ghost use Prim.Native.Nat.{ℕ, _+_};
 ghost use lib.Dec.{eqb};
 ghost use Rattle.base.specs.Limits.{mostCars};
-ghost use Rattle.summing.specs.Sums.{together, sameTotals, sameSums, withCar, sumsWith};
-ghost use Rattle.summing.specs.Inner.{Small, Room, shownAs};
+ghost use Rattle.summing.specs.Sums.{together, sameTotals, sameSums, withCar};
+ghost use Rattle.summing.specs.Inner.{Small, shownAs};
 use base::GRADES;
 
 // How many cars are accepted, and their gross and net in kg.
@@ -40,35 +40,16 @@ fn is_sum(sum: u64, a: u64, b: u64, c: u64, d: u64) -> bool
 }
 
 impl Totals {
-    // With one car more.
-    fn with_car(self, grade: u32, gross: u32, net: u32) -> Totals
+    // With one car more: they are then those of one more, whose masses fit 32 bits.
+    pub fn with_car(self, grade: u32, gross: u32, net: u32) -> Totals
         requires { ⌜ Small mostCars self ⌝ }
-        ensures { λ r. ⌜ r ≡ withCar (shownAs grade gross net) self ⌝ }
+        ensures { λ r. ⌜ (r ≡ withCar (shownAs grade gross net) self) × ((n : ℕ) → Small n self → Small (n + 1) r) ⌝ }
     {
         Totals {
             accepted: self.accepted + 1,
             gross: self.gross + gross as u64,
             net: self.net + net as u64,
         }
-    }
-}
-
-impl Sums {
-    // With one car more, of a grade from 1 on; one of a grade that there is not is added to those of all cars alone.
-    pub fn with_car(self, grade: u32, gross: u32, net: u32) -> Sums
-        requires { ⌜ Room mostCars self × (1 ≤ grade) ⌝ }
-        ensures { λ r. ⌜ r ≡ sumsWith self (shownAs grade gross net) ⌝ }
-    {
-        let all = self.all;
-        let place = grade as usize - 1;
-        let mut next = self;
-        next.all = all.with_car(grade, gross, net);
-        if GRADES <= place {
-            return next;
-        }
-        let of_grade = self.grades[place];
-        next.grades[place] = of_grade.with_car(grade, gross, net);
-        next
     }
 }
 

@@ -1,12 +1,11 @@
-// Tests a train that is handed in: whether 9 applies to it, but for the sixty numbers of a full one.
+// The sums that held cars make, and the test of a train that is handed in: whether 9 applies to it, but for the sixty numbers of a full one.
 ghost use mathlib.Core.Path.{_≡_};
-ghost use Prim.Native.Nat.{ℕ, _+_, _≤_};
+ghost use Prim.Native.Nat.{_+_, _≤_};
 ghost use lib.ListN.{length, take};
 ghost use Rattle.base.specs.Limits.{mostCars};
 ghost use Rattle.summing.specs.Sums.{sumsOf};
-ghost use Rattle.summing.specs.Inner.{Room};
-ghost use Rattle.consist.specs.Train.{Train, heldAs, carsFrom, shownIn, twice, unsound};
-ghost use Rattle.consist.specs.Inner.{sumsMore, Sixty};
+ghost use Rattle.consist.specs.Train.{Train, carsFrom, shownIn, twice, unsound};
+ghost use Rattle.consist.specs.Inner.{Sixty};
 ghost use Rattle.consist.specs.Lent.{talliedTrain};
 use base::GRADES;
 use base::MOST_CARS;
@@ -33,18 +32,15 @@ fn repeats(numbers: &[u32; MOST_CARS], n: usize) -> bool
     false
 }
 
-// The sums with a held car; a refused one, of grade 0, adds nothing.
-fn sums_more(sums: Sums, grade: u32, gross: u32, net: u32) -> Sums
-    requires { ⌜ Room mostCars sums ⌝ }
-    ensures { λ r. ⌜ (r ≡ sumsMore sums (heldAs 0 grade gross net)) × ((n : ℕ) → Room n sums → Room (n + 1) r) ⌝ }
+// The place of a grade among the totals by grade, which there may be too few of.
+fn place_of(grade: u32) -> usize
+    requires { ⌜ 1 ≤ grade ⌝ }
+    ensures { λ r. ⌜ grade ≡ 1 + r ⌝ }
 {
-    if grade == 0 {
-        return sums;
-    }
-    sums.with_car(grade, gross, net)
+    grade as usize - 1
 }
 
-// The sums that the first n cars make.
+// The sums that the first n cars make; a refused one, of grade 0, adds nothing.
 pub fn made_by(
     n: usize,
     grades: &[u32; MOST_CARS],
@@ -59,16 +55,27 @@ pub fn made_by(
         gross: 0,
         net: 0,
     };
-    let mut sums = Sums {
-        all: none,
-        grades: [none; GRADES],
-    };
+    let mut all = none;
+    let mut of_grades = [none; GRADES];
     let mut i: usize = 0;
     while i < n {
-        sums = sums_more(sums, grades[i], grosses[i], nets[i]);
+        let grade = grades[i];
+        if grade != 0 {
+            let gross = grosses[i];
+            let net = nets[i];
+            all = all.with_car(grade, gross, net);
+            let place = place_of(grade);
+            if place < GRADES {
+                let of_grade = of_grades[place];
+                of_grades[place] = of_grade.with_car(grade, gross, net);
+            }
+        }
         i += 1;
     }
-    sums
+    Sums {
+        all,
+        grades: of_grades,
+    }
 }
 
 // It holds more than sixty numbers or one twice, is over its limits, or its sums are not those of its cars, or of its grades.
