@@ -18,8 +18,8 @@
  * What is only read may.
  * Threads: nothing is kept after a call and no memory is asked for, so calls from several threads at
  * once do not disturb each other.
- * Stack: 32,768 bytes are enough for every function; rack_answer_sheet takes about 26,000 of them,
- * rack_permitted_error about 14,000, rack_train_enter and rack_train_strike about 3,200, each other
+ * Stack: 32,768 bytes are enough for every function; rack_answer_sheet takes about 25,500 of them,
+ * rack_permitted_error about 14,000, rack_train_enter and rack_train_strike about 3,000, each other
  * function less than 2,000.
  *
  * Units: a mean level, a stick level and the level of the tape allowance in 0.1 mm; readings, those of the

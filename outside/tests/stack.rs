@@ -15,9 +15,9 @@ use reference::{sheets, ANSWER_BYTES};
 const ENOUGH: usize = 32_768;
 /// What it says of a sheet, of the permitted error and of a train, each with 500 bytes for "about", and of
 /// any other.
-const OF_A_SHEET: usize = 26_500;
+const OF_A_SHEET: usize = 26_000;
 const OF_THE_ERROR: usize = 14_500;
-const OF_A_TRAIN: usize = 3_700;
+const OF_A_TRAIN: usize = 3_500;
 const OF_ANY_OTHER: usize = 2_000;
 
 /// What the stack of a call holds before it, 16 bytes at a time, and how many times.
