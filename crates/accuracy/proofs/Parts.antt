@@ -9,17 +9,20 @@ use borrow.Author.Tests.{lt-ltb, le-ltb, eq-eqb, ne-eqb}
 use Rattle.base.specs.Answer.{Test, accepts, refuses, first, firstNumber}
 use Rattle.base.proofs.Answer.{passed, alone-passes, refuses-append, refused-append, accepted-append}
 use Rattle.table.specs.Table.{Table}
-use Rattle.car.specs.declared.Car.{Car}
 use Rattle.car.specs.Measured.{v0}
-use Rattle.car.specs.Car.{measured, aloneTests}
+use Rattle.car.specs.Car.{Intake, measuredOf, aloneTests}
 use Rattle.accuracy.specs.declared.Errors.{Errors}
 use Rattle.accuracy.specs.Permitted.{mostLevelTerm, levelTermOf, errorsBad, errorTests, termTests, permittedTests}
 use Rattle.accuracy.specs.Inner.{ErrorsInRange}
 use Rattle.accuracy.proofs.Bounds.{errors-in-range}
 
-module _ (ts : List Table) (c : Car) (e : Errors) where
+-- where 24 does not apply, each error is in its range
+pub in-range : (e : Errors) {k : ℕ} → k ≡ firstNumber (errorTests e) → k ≡ 0 → ErrorsInRange e
+in-range e h z = errors-in-range e (alone-passes 24 (errorsBad e) h z (omega arith))
+
+module _ (ts : List Table) (c : Intake) (e : Errors) where
   abbrev later : List Test
-  later = errorTests e ++ termTests ts (measured c) e
+  later = errorTests e ++ termTests ts (measuredOf c) e
 
   pub car-away : {k : ℕ} → first (aloneTests ts c) ≡ refuses k → first (permittedTests ts c e) ≡ refuses k
   unfolding permittedTests
@@ -28,22 +31,19 @@ module _ (ts : List Table) (c : Car) (e : Errors) where
   module _ (alone : first (aloneTests ts c) ≡ accepts) where
     pub errors-away : {k : ℕ} → k ≡ firstNumber (errorTests e) → (k ≡ 0 → ⊥) → first (permittedTests ts c e) ≡ refuses k
     unfolding permittedTests
-    errors-away h n = accepted-append later (aloneTests ts c) alone ∙ refused-append (termTests ts (measured c) e) (errorTests e) h n
+    errors-away h n = accepted-append later (aloneTests ts c) alone ∙ refused-append (termTests ts (measuredOf c) e) (errorTests e) h n
 
-    pub from-term : {k : ℕ} → k ≡ firstNumber (errorTests e) → k ≡ 0 → first (permittedTests ts c e) ≡ first (termTests ts (measured c) e)
+    pub from-term : {k : ℕ} → k ≡ firstNumber (errorTests e) → k ≡ 0 → first (permittedTests ts c e) ≡ first (termTests ts (measuredOf c) e)
     unfolding permittedTests
     from-term h z =
-        accepted-append later (aloneTests ts c) alone ∙ accepted-append (termTests ts (measured c) e) (errorTests e) (passed (errorTests e) refl h z)
+        accepted-append later (aloneTests ts c) alone ∙ accepted-append (termTests ts (measuredOf c) e) (errorTests e) (passed (errorTests e) refl h z)
 
     module _ {k : ℕ} (h : k ≡ firstNumber (errorTests e)) (z : k ≡ 0) where
-      pub in-range : ErrorsInRange e
-      in-range = errors-in-range e (alone-passes 24 (errorsBad e) h z (omega arith))
+      pub no-volume : v0 ts (measuredOf c) ≡ 0 → first (permittedTests ts c e) ≡ refuses 25
+      no-volume q = from-term h z ∙ rw (eq-eqb (v0 ts (measuredOf c)) 0 q)
 
-      pub no-volume : v0 ts (measured c) ≡ 0 → first (permittedTests ts c e) ≡ refuses 25
-      no-volume q = from-term h z ∙ rw (eq-eqb (v0 ts (measured c)) 0 q)
+      pub too-large : mostLevelTerm < levelTermOf ts (measuredOf c) e → first (permittedTests ts c e) ≡ refuses 25
+      too-large q = from-term h z ∙ rw (lt-ltb mostLevelTerm (levelTermOf ts (measuredOf c) e) q, or-true (eqb (v0 ts (measuredOf c)) 0))
 
-      pub too-large : mostLevelTerm < levelTermOf ts (measured c) e → first (permittedTests ts c e) ≡ refuses 25
-      too-large q = from-term h z ∙ rw (lt-ltb mostLevelTerm (levelTermOf ts (measured c) e) q, or-true (eqb (v0 ts (measured c)) 0))
-
-      pub all-passed : (v0 ts (measured c) ≡ 0 → ⊥) → levelTermOf ts (measured c) e ≤ mostLevelTerm → first (permittedTests ts c e) ≡ accepts
-      all-passed n q = from-term h z ∙ rw (ne-eqb (v0 ts (measured c)) 0 n, le-ltb mostLevelTerm (levelTermOf ts (measured c) e) q)
+      pub all-passed : (v0 ts (measuredOf c) ≡ 0 → ⊥) → levelTermOf ts (measuredOf c) e ≤ mostLevelTerm → first (permittedTests ts c e) ≡ accepts
+      all-passed n q = from-term h z ∙ rw (ne-eqb (v0 ts (measuredOf c)) 0 n, le-ltb mostLevelTerm (levelTermOf ts (measuredOf c) e) q)

@@ -12,9 +12,8 @@ use Rattle.table.specs.Table.{Row, Table, lastLevel}
 use Rattle.table.proofs.Rising.{Follows, RisingFrom, Rising}
 use Rattle.gauging.specs.Capacity.{Gap, gapAfter, rowsAround}
 use Rattle.gauging.proofs.Capacity.{by-leb}
-use Rattle.car.specs.declared.Car.{Car}
 use Rattle.car.specs.Measured.{rows, mass, sixFigures}
-use Rattle.car.specs.Car.{measured, aloneTests}
+use Rattle.car.specs.Car.{Intake, measuredOf, aloneTests}
 use Rattle.car.proofs.Accepted.{passed-alone, level-in, rising}
 use Rattle.accuracy.specs.declared.Errors.{Errors}
 use Rattle.accuracy.specs.Permitted.{gap, levelTermOf, termsOf, errorTests, termTests, permittedTests, eightFigures, PermittedAnswer}
@@ -57,13 +56,13 @@ rows-found (row ∷ []) r p q = absurd r
 rows-found (row ∷ next ∷ rows) (z, _, r) {h} p q = after-found row next rows r h (omega (arith, z)) q
 
 -- the answer on the permitted error
-module _ (ts : List Table) (c : Car) (e : Errors) where
-  car-found : first (permittedTests ts c e) ≡ accepts → Found (rows ts (measured c)) (measured c .level) (gap ts (measured c))
+module _ (ts : List Table) (c : Intake) (e : Errors) where
+  car-found : first (permittedTests ts c e) ≡ accepts → Found (rows ts (measuredOf c)) (measuredOf c .level) (gap ts (measuredOf c))
   unfolding permittedTests
   car-found v =
-      let h = passed-alone c (accepted-parts (errorTests e ++ termTests ts (measured c) e) (aloneTests ts c) v .0) in
-      let l = level-in ts (measured c) h in
-      rows-found (rows ts (measured c)) (rising ts (measured c) h) (l .0) (l .1)
+      let h = passed-alone c (accepted-parts (errorTests e ++ termTests ts (measuredOf c) e) (aloneTests ts c) v .0) in
+      let l = level-in ts (measuredOf c) h in
+      rows-found (rows ts (measuredOf c)) (rising ts (measuredOf c) h) (l .0) (l .1)
 
   pub shown-right : {a : Answer} → PermittedAnswer ts c e a → ShownRight ts c e a
   unfolding levelTermOf termsOf sixFigures mass
@@ -73,7 +72,7 @@ module _ (ts : List Table) (c : Car) (e : Errors) where
       go accepts v =
           let f = car-found v in
           record {
-            gap = gap ts (measured c);
+            gap = gap ts (measuredOf c);
             around = f .around;
             limit = p .smallest v;
             within = refl;

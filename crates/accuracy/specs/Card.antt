@@ -8,7 +8,7 @@ use Rattle.base.specs.Answer.{Answer, figures, refusal}
 use Rattle.base.specs.Lists.{Each}
 use Rattle.table.specs.Table.{Table, rowOf}
 use Rattle.heating.specs.Steps.{expansion}
-use Rattle.car.specs.Car.{carOf, measured}
+use Rattle.car.specs.Car.{carOf, measured, dipped}
 use Rattle.car.specs.Card.{cardTables, badType, badRow, firstCar, withNumber, withCodes, withDip, withOil}
 use Rattle.accuracy.specs.Terms.{temperatureTerm, densityFactor, timesFactor, sumOfSquares}
 use Rattle.accuracy.specs.Limit.{within}
@@ -190,4 +190,4 @@ card =
 pub record PermittedRight : Type 0 where
   pub terms : Each (λ k. k .reckoned ≡ k .card) termsCard
   pub within : Each (λ k. k .reckoned ≡ k .card) withinCard
-  pub each : Each (λ k. PermittedAnswer (k .tables) (carOf (k .car)) (errorsOf (k .errors)) (k .answer)) card
+  pub each : Each (λ k. PermittedAnswer (k .tables) (dipped (carOf (k .car))) (errorsOf (k .errors)) (k .answer)) card

@@ -10,10 +10,9 @@ use Rattle.base.specs.Numbers.{oneIf}
 use Rattle.table.specs.Table.{Table}
 use Rattle.gauging.specs.Capacity.{Gap, rowsAround}
 use Rattle.heating.specs.Steps.{expansion}
-use Rattle.car.specs.declared.Car.{Car}
 use Rattle.car.specs.declared.Measured.{Measured}
 use Rattle.car.specs.Measured.{rows, v0, gross, mass}
-use Rattle.car.specs.Car.{measured, figuresOf, aloneTests}
+use Rattle.car.specs.Car.{measured, Intake, measuredOf, figuresOf, aloneTests}
 use Rattle.accuracy.specs.declared.Errors.{Errors}
 use Rattle.accuracy.specs.declared.PermittedError.{PermittedError}
 use Rattle.accuracy.specs.declared.PermittedError.the-variants.{Limit, Refused}
@@ -79,22 +78,22 @@ abbrev pub termTests : List Table → Measured → Errors → List Test
 termTests ts m e = refuseIf 25 (levelTermBad ts m e) ∷ []
 
 -- those of the car alone come first
-unfoldable pub permittedTests : List Table → Car → Errors → List Test
-permittedTests ts c e = aloneTests ts c ++ (errorTests e ++ termTests ts (measured c) e)
+unfoldable pub permittedTests : List Table → Intake → Errors → List Test
+permittedTests ts c e = aloneTests ts c ++ (errorTests e ++ termTests ts (measuredOf c) e)
 
 -- The answer: the six figures, the limit, and 1 where it is within, 0 where not.
 
-abbrev pub eightFigures : List Table → Car → ℕ → List ℕ
-eightFigures ts c n = figuresOf ts c ++ (n ∷ oneIf (within n (mass gross ts (measured c))) ∷ [])
+abbrev pub eightFigures : List Table → Intake → ℕ → List ℕ
+eightFigures ts c n = figuresOf ts c ++ (n ∷ oneIf (within n (mass gross ts (measuredOf c))) ∷ [])
 
 -- a is the answer, with this limit where there is no refusal
-pub record PermittedAnswer (ts : List Table) (c : Car) (e : Errors) (a : Answer) : Type 0 where
+pub record PermittedAnswer (ts : List Table) (c : Intake) (e : Errors) (a : Answer) : Type 0 where
   pub limit : ℕ
-  pub smallest : first (permittedTests ts c e) ≡ accepts → IsLimit (sumOfSquares (termsOf ts (measured c) e)) limit
+  pub smallest : first (permittedTests ts c e) ≡ accepts → IsLimit (sumOfSquares (termsOf ts (measuredOf c) e)) limit
   pub answered : a ≡ answer (first (permittedTests ts c e)) (eightFigures ts c limit)
 
 -- and there is no other
-pub record OnlyAnswer (ts : List Table) (c : Car) (e : Errors) (a : Answer) : Type 0 where
+pub record OnlyAnswer (ts : List Table) (c : Intake) (e : Errors) (a : Answer) : Type 0 where
   pub right : PermittedAnswer ts c e a
   pub only : (b : Answer) → PermittedAnswer ts c e b → b ≡ a
 

@@ -10,9 +10,8 @@ use Rattle.base.specs.Answer.{Answer, figures, refusal}
 use Rattle.table.specs.Table.{Row, Table}
 use Rattle.gauging.specs.Capacity.{Gap}
 use Rattle.heating.specs.Steps.{expansion}
-use Rattle.car.specs.declared.Car.{Car}
 use Rattle.car.specs.Measured.{rows}
-use Rattle.car.specs.Car.{measured}
+use Rattle.car.specs.Car.{Intake, measuredOf}
 use Rattle.accuracy.specs.declared.Errors.{Errors}
 use Rattle.accuracy.specs.Terms.{levelStep, capacityStep, levelTerm, terms, sumOfSquares}
 use Rattle.accuracy.specs.Limit.{IsLimit, within}
@@ -26,16 +25,16 @@ pub record Around (rows : List Row) (level : ℕ) (g : Gap) : Type 0 where
   pub reached : level ≤ inTenths (g .high .level)
 
 -- of the figures of a car with these errors: V0 stands third, gross fifth, the limit seventh, whether it is within eighth
-pub record FiguresRight (ts : List Table) (c : Car) (e : Errors) (values : List ℕ) : Type 0 where
+pub record FiguresRight (ts : List Table) (c : Intake) (e : Errors) (values : List ℕ) : Type 0 where
   pub gap : Gap
-  pub around : Around (rows ts (measured c)) (measured c .level) gap
-  pub limit : IsLimit (sumOfSquares (terms e (levelTerm (e .level) gap (getD values 2 0)) (expansion (c .density .0)) (c .temperature))) (getD values 6 0)
+  pub around : Around (rows ts (measuredOf c)) (measuredOf c .level) gap
+  pub limit : IsLimit (sumOfSquares (terms e (levelTerm (e .level) gap (getD values 2 0)) (expansion (measuredOf c .density .0)) (measuredOf c .temperature))) (getD values 6 0)
   pub within : getD values 7 0 ≡ oneIf (within (getD values 6 0) (getD values 4 0))
   -- a difference that was cut off does not add up again
   pub levels : gap .low .level + levelStep gap ≡ gap .high .level
   pub capacities : gap .low .capacity + capacityStep gap ≡ gap .high .capacity
 
 -- of an answer, where it shows figures
-abbrev pub ShownRight : List Table → Car → Errors → Answer → Type 0
+abbrev pub ShownRight : List Table → Intake → Errors → Answer → Type 0
 ShownRight ts c e (figures values) = FiguresRight ts c e values
 ShownRight ts c e (refusal n) = Unit {0}

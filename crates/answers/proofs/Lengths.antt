@@ -12,7 +12,7 @@ use Rattle.reading.specs.Letter.{widthOf}
 use Rattle.line.specs.Writing.{lineOf}
 use Rattle.line.proofs.Bytes.{small-at, length-lineOf}
 use Rattle.table.specs.Table.{Table, tablesVerdict}
-use Rattle.car.specs.Car.{carOf}
+use Rattle.car.specs.Car.{carOf, dipped}
 use Rattle.consist.specs.Train.{Train}
 use Rattle.consist.specs.Book.{Item}
 use Rattle.consist.specs.Demand3.{answerTo, trainWith}
@@ -33,7 +33,7 @@ number-small ns h = small-at ns 14 (h .small) 0 (omega arith)
 
 -- the line that a line behind the tables gets
 pub line-fit : (ts : List Table) → tablesVerdict ts ≡ accepts → (t : Train) (l : TrainLine) → Fitting l → Fit (itemLine (itemOf ts l) (answerTo t (itemOf ts l)))
-line-fit ts good t (enters ns) h = car-fit ts t (carOf ns) good (number-small ns h)
+line-fit ts good t (enters ns) h = car-fit ts t (dipped (carOf ns)) good (number-small ns h)
 line-fit ts good t (strikes n) h = strike-fit t n h .0
 
 -- room for the lines of so many C lines and K lines, S and the G lines

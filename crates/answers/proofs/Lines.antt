@@ -2,12 +2,12 @@
 use Prim.Native.Nat.{ℕ, _+_, _*_, _≤_}
 use mathlib.Core.Path.{_≡_, refl}
 use mathlib.Core.Bool.{true}
-use mathlib.Core.List.{List, [], _∷_}
+use mathlib.Core.List.{List, [], _∷_, _++_}
 use native.Mathlib.Omega.{arith}
 use lib.ListN.{length, length-append}
 use borrow.Author.Tests.{le-leb}
 use Rattle.base.specs.Limits.{largest, gradeCount}
-use Rattle.base.specs.Answer.{lastRefusal, Verdict, accepts, refuses, first, figures, refusal, answer}
+use Rattle.base.specs.Answer.{Test, lastRefusal, Verdict, accepts, refuses, first, figures, refusal, answer}
 use Rattle.base.proofs.Answer.{numbered, numbered-append, number-most, accepted-parts}
 use Rattle.base.specs.Lists.{Each}
 use Rattle.reading.specs.declared.letter.Letter.the-variants.{CarAccepted, CarRefused, Totals as S, GradeTotals as G}
@@ -21,11 +21,12 @@ use Rattle.table.proofs.Rising.{tables-last-most}
 use Rattle.kilograms.specs.Inner.{mostColdVolume}
 use Rattle.kilograms.specs.Steps as steps
 use Rattle.kilograms.proofs.Bounds.{stickCoefficient-most, hotVolume-most, coldVolume-most}
-use Rattle.car.specs.declared.Car.{Car}
 use Rattle.car.specs.declared.Measured.{Measured}
 use Rattle.car.specs.Measured.{gross, net, v0, v15From, mass, measuredTests, sixFigures}
-use Rattle.car.specs.Car.{measured, carTests, figuresOf}
-use Rattle.car.proofs.Accepted.{Passed, passed-car, known, low, fields, shows}
+use Rattle.car.specs.Car.{Intake, intakeNumber, beforeTests, measuredOf, carTests, figuresOf}
+use Rattle.car.proofs.Answers.{before-numbered, own-numbered}
+use Rattle.car.specs.Inner.{Passed}
+use Rattle.car.proofs.Accepted.{passed-car, known, low, fields, shows}
 use Rattle.car.proofs.Masses.{mass-most}
 use Rattle.summing.specs.declared.Totals.{Totals}
 use Rattle.summing.specs.declared.Sums.{Sums}
@@ -37,10 +38,12 @@ use Rattle.answers.specs.Listing.{answerLine, struckLine, totalsLine, gr
 use Rattle.answers.specs.Reconciled.{Small}
 
 -- each test of a car entered in a train has the number of a refusal
-enter-numbered : (ts : List Table) (t : Train) (c : Car) → numbered (enterTests ts t c) ≡ true
-unfolding enterTests admissionTests carTests measuredTests
+enter-numbered : (ts : List Table) (t : Train) (c : Intake) → numbered (enterTests ts t c) ≡ true
+unfolding enterTests admissionTests
 enter-numbered ts t c =
-    numbered-append (admissionTests ts t c) (carTests ts c) (numbered-append (tablesTests ts) (trainTests t (c .number)) (tables-numbered ts) refl) refl
+    let tables : List Test = tablesTests ts in
+    let place : List Test = trainTests t (intakeNumber c) in
+    numbered-append (admissionTests ts t c) (carTests ts c) (numbered-append (beforeTests c) (tables ++ place) (before-numbered c) (numbered-append tables place (tables-numbered ts) refl)) (own-numbered ts c)
 
 -- a line that can be written wherever it has room
 pub record Fit (l : Line) : Type 0 where
@@ -78,13 +81,13 @@ six-fit ts number m k h =
     }
 
 -- the line of a car on tables that are not refused
-pub car-fit : (ts : List Table) (t : Train) (c : Car) → tablesVerdict ts ≡ accepts → c .number ≤ largest → Fit (answerLine (c .number) (enterAnswer ts t c))
+pub car-fit : (ts : List Table) (t : Train) (c : Intake) → tablesVerdict ts ≡ accepts → intakeNumber c ≤ largest → Fit (answerLine (intakeNumber c) (enterAnswer ts t c))
 unfolding enterTests enterAnswer
 car-fit ts t c good h = by-verdict (first (enterTests ts t c)) refl
   where
-    by-verdict : (v : Verdict) → first (enterTests ts t c) ≡ v → Fit (answerLine (c .number) (answer v (figuresOf ts c)))
-    by-verdict (refuses n) e = x-fit (c .number) n h (number-most (enterTests ts t c) (enter-numbered ts t c) e)
-    by-verdict accepts e = six-fit ts (c .number) (measured c) h (passed-car c good (accepted-parts (carTests ts c) (admissionTests ts t c) e .1))
+    by-verdict : (v : Verdict) → first (enterTests ts t c) ≡ v → Fit (answerLine (intakeNumber c) (answer v (figuresOf ts c)))
+    by-verdict (refuses n) e = x-fit (intakeNumber c) n h (number-most (enterTests ts t c) (enter-numbered ts t c) e)
+    by-verdict accepts e = six-fit ts (intakeNumber c) (measuredOf c) h (passed-car c good (accepted-parts (carTests ts c) (admissionTests ts t c) e .1))
 
 -- the line of a strike
 strike-numbered : (t : Train) (n : ℕ) → numbered (strikeTests t n) ≡ true

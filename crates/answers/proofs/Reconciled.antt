@@ -15,7 +15,7 @@ use Rattle.reading.specs.Letter.{countOf}
 use Rattle.line.proofs.Bytes.{length-lineOf}
 use Rattle.table.specs.Table.{Table, tablesVerdict}
 use Rattle.car.specs.declared.Measured.{Measured}
-use Rattle.car.specs.Car.{measured}
+use Rattle.car.specs.Car.{measuredOf}
 use Rattle.summing.specs.declared.Totals.{Totals}
 use Rattle.summing.specs.declared.Sums.{Sums}
 use Rattle.summing.specs.Sums.{Shown, ofGrade, totalsOf, sumsOf, gradeTotals, together}
@@ -66,7 +66,7 @@ sum-of ss e = record { field = by-place }
 each-answered : (P : List Table → Measured → Answer → Type 0) → ((ts : List Table) (m : Measured) (a : Answer) → Answered ts m a → P ts m a)
     → (t : Train) (items : List Item) → EachAnswered P items (answersFrom t items)
 each-answered P law t [] = tt
-each-answered P law t (car ts c ∷ items) = (law ts (measured c) (enterAnswer ts t c) (entered t c), each-answered P law (trainWith t (car ts c)) items)
+each-answered P law t (car ts c ∷ items) = (law ts (measuredOf c) (enterAnswer ts t c) (entered t c), each-answered P law (trainWith t (car ts c)) items)
 each-answered P law t (strike n ∷ items) = each-answered P law (trainWith t (strike n)) items
 
 each-small : (ls : List Line) → Each Fit ls → Each Small ls

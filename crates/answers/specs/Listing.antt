@@ -11,7 +11,7 @@ use Rattle.reading.specs.declared.letter.Letter.the-variants.{Strike as K, CarA
 use Rattle.reading.specs.declared.letter.Line.{Line}
 use Rattle.reading.specs.Letter.{widthOf}
 use Rattle.table.specs.Table.{Table}
-use Rattle.car.specs.Car.{carOf}
+use Rattle.car.specs.Car.{carOf, dipped, intakeNumber}
 use Rattle.summing.specs.declared.Totals.{Totals}
 use Rattle.summing.specs.declared.Sums.{Sums}
 use Rattle.consist.specs.Train.{Train, emptyTrain}
@@ -26,7 +26,7 @@ use Rattle.answers.specs.declared.Reply.{Reply}
 
 -- a C line is a car on the sheet's tables, a K line a strike
 abbrev pub itemOf : List Table → TrainLine → Item
-itemOf ts (enters numbers) = car ts (carOf numbers)
+itemOf ts (enters numbers) = car ts (dipped (carOf numbers))
 itemOf ts (strikes number) = strike number
 
 abbrev pub itemsOf : List Table → List TrainLine → List Item
@@ -46,7 +46,7 @@ struckLine number (refusal n) = lineWith CarRefused (number ∷ n ∷ [])
 
 -- the line of an item that got this answer
 abbrev pub itemLine : Item → Answer → Line
-itemLine (car ts c) a = answerLine (c .number) a
+itemLine (car ts c) a = answerLine (intakeNumber c) a
 itemLine (strike number) a = struckLine number a
 
 -- S: accepted cars, gross total, net total

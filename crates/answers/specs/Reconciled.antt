@@ -15,7 +15,7 @@ use Rattle.line.specs.Writing.{smallTo}
 use Rattle.table.specs.Table.{Table, tablesVerdict}
 use Rattle.car.specs.declared.Measured.{Measured}
 use Rattle.car.specs.Measured.{gross, net}
-use Rattle.car.specs.Car.{measured}
+use Rattle.car.specs.Car.{measuredOf}
 use Rattle.summing.specs.Sums.{Shown, shownMass, ofGrade}
 use Rattle.consist.specs.Train.{emptyTrain}
 use Rattle.consist.specs.Book.{Item, car, strike, Load, loads, loadsOfGrade, bookFrom}
@@ -38,7 +38,7 @@ linesWith (i ∷ is) (a ∷ answers) = itemLine i a ∷ linesWith is answers
 abbrev pub EachAnswered : (List Table → Measured → Answer → Type 0) → List Item → List Answer → Type 0
 EachAnswered P [] answers = Unit {0}
 EachAnswered P (i ∷ is) [] = ⊥
-EachAnswered P (car ts c ∷ is) (a ∷ answers) = P ts (measured c) a × EachAnswered P is answers
+EachAnswered P (car ts c ∷ is) (a ∷ answers) = P ts (measuredOf c) a × EachAnswered P is answers
 EachAnswered P (strike number ∷ is) (a ∷ answers) = EachAnswered P is answers
 
 -- The numbers of S and of a G line: how many entries with masses, and the sums of the masses shown, of all cars or of one grade.

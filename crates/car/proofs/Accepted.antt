@@ -11,7 +11,6 @@ use Rattle.base.specs.Limits.{inTenths}
 use Rattle.base.specs.Answer.{Test, accepts, refuses, first}
 use Rattle.base.proofs.Choice.{neither}
 use Rattle.base.proofs.Answer.{not-applied, accepted-parts}
-use Rattle.dip.specs.Level.{readingsTests}
 use Rattle.table.specs.Table.{Table, tablesTests, tablesVerdict, unknown, lastLevel}
 use Rattle.table.proofs.Rising.{Rising, tables-rising}
 use Rattle.gauging.specs.Capacity.{above, levelTests}
@@ -23,42 +22,37 @@ use Rattle.kilograms.specs.Inner.{InRange}
 use Rattle.kilograms.specs.Distance.{Shows}
 use Rattle.kilograms.proofs.Distance.{shown-near}
 use Rattle.kilograms.proofs.Uncut.{nothing-cut}
-use Rattle.car.specs.declared.Car.{Car}
 use Rattle.car.specs.declared.Measured.{Measured}
 use Rattle.car.specs.Measured.{rows, earlyTests, lateTests, measuredTests, v0}
-use Rattle.car.specs.Car.{carOf, numberTests, measured, carTests, aloneTests}
+use Rattle.car.specs.Car.{carOf, numberTests, Intake, dipped, intakeNumber, beforeTests, dipTests, measuredOf, carTests, aloneTests}
+use Rattle.car.specs.Inner.{Passed}
 use Rattle.car.specs.Card.{cardTables}
 use Rattle.car.specs.Exact.{volumeˣ, Uncut}
 
 -- a figure beside the law, which a list without the readings' tests, or with these behind 16, refuses: three readings, all 0
-fourteen-first : first (carTests cardTables (carOf (1 ∷ 1 ∷ 3 ∷ 1 ∷ 3 ∷ 0 ∷ 0 ∷ 0 ∷ 0 ∷ 0 ∷ 600 ∷ 9_500 ∷ 50 ∷ 20 ∷ []))) ≡ refuses 14
+fourteen-first : first (carTests cardTables (dipped (carOf (1 ∷ 1 ∷ 3 ∷ 1 ∷ 3 ∷ 0 ∷ 0 ∷ 0 ∷ 0 ∷ 0 ∷ 600 ∷ 9_500 ∷ 50 ∷ 20 ∷ [])))) ≡ refuses 14
 unfolding carTests measuredTests
 fourteen-first = refl
 
 -- and one with 23 behind 16: four readings of which no three agree, above the last level
-twenty-three-first : first (carTests cardTables (carOf (1 ∷ 1 ∷ 3 ∷ 1 ∷ 4 ∷ 3_001 ∷ 3_011 ∷ 3_021 ∷ 3_031 ∷ 0 ∷ 600 ∷ 9_500 ∷ 50 ∷ 20 ∷ []))) ≡ refuses 23
+twenty-three-first : first (carTests cardTables (dipped (carOf (1 ∷ 1 ∷ 3 ∷ 1 ∷ 4 ∷ 3_001 ∷ 3_011 ∷ 3_021 ∷ 3_031 ∷ 0 ∷ 600 ∷ 9_500 ∷ 50 ∷ 20 ∷ [])))) ≡ refuses 23
 unfolding carTests measuredTests
 twenty-three-first = refl
 
--- no refusal of the tables applies, nor 12, 13 or 16 to 21
-pub record Passed (ts : List Table) (m : Measured) : Type 0 where
-  pub tables : tablesVerdict ts ≡ accepts
-  pub early : first (earlyTests ts m) ≡ accepts
-  pub late : first (lateTests ts m) ≡ accepts
-
-pub passed-car : {ts : List Table} (c : Car) → tablesVerdict ts ≡ accepts → first (carTests ts c) ≡ accepts → Passed ts (measured c)
+pub passed-car : {ts : List Table} (h : Intake) → tablesVerdict ts ≡ accepts → first (carTests ts h) ≡ accepts → Passed ts (measuredOf h)
 unfolding carTests measuredTests
-passed-car {ts} c good e =
-    let readings : List Test = readingsTests (c .count) (c .readings) in
-    let p = accepted-parts (readings ++ lateTests ts (measured c)) (earlyTests ts (measured c)) e in
-    record { tables = good; early = p .0; late = accepted-parts (lateTests ts (measured c)) readings (p .1) .1 }
+passed-car {ts} h good e =
+    let m : Measured = measuredOf h in
+    let p = accepted-parts (dipTests h ++ lateTests ts m) (earlyTests ts m) e in
+    record { tables = good; early = p .0; late = accepted-parts (lateTests ts m) (dipTests h) (p .1) .1 }
 
 -- a car alone
-pub passed-alone : {ts : List Table} (c : Car) → first (aloneTests ts c) ≡ accepts → Passed ts (measured c)
+pub passed-alone : {ts : List Table} (h : Intake) → first (aloneTests ts h) ≡ accepts → Passed ts (measuredOf h)
 unfolding aloneTests
-passed-alone {ts} c e =
-    let p = accepted-parts (numberTests (c .number) ++ carTests ts c) (tablesTests ts) e in
-    passed-car c (p .0) (accepted-parts (carTests ts c) (numberTests (c .number)) (p .1) .1)
+passed-alone {ts} h e =
+    let own : List Test = numberTests (intakeNumber h) ++ carTests ts h in
+    let p = accepted-parts own (tablesTests ts) (accepted-parts (tablesTests ts ++ own) (beforeTests h) e .1) in
+    passed-car h (p .0) (accepted-parts (carTests ts h) (numberTests (intakeNumber h)) (p .1) .1)
 
 pub grade-known : (ts : List Table) (m : Measured) → first (earlyTests ts m) ≡ accepts → gradeBad (m .grade) ≡ false
 grade-known ts m e = neither (gradeBad (m .grade)) (stickBad (m .stick)) (not-applied 13 (earlyTests ts m) e) .0

@@ -1,33 +1,44 @@
 -- A car's answer by its tests in the parts in which the code takes them: the first refusal is that of the whole list.
 use Prim.Native.Nat.{ℕ}
 use mathlib.Core.Path.{_≡_, refl, sym, ap, _∙_}
-use mathlib.Core.List.{List, [], _∷_, _++_}
+use mathlib.Core.Bool.{true}
+use mathlib.Core.List.{List, [], _∷_, _++_, append-assoc}
 use Rattle.base.specs.Answer.{Test, Verdict, accepts, refuses, first, firstNumber, refusal, answer}
-use Rattle.base.proofs.Answer.{passed, answer-figures, refuses-append, refused-append, accepted-append, accepted-parts}
-use Rattle.dip.specs.Level.{readingsTests}
+use Rattle.base.proofs.Answer.{numbered, numbered-append, passed, answer-figures, refuses-append, refused-append, accepted-append, accepted-parts}
 use Rattle.table.specs.Table.{Table, tablesTests, tablesVerdict}
+use Rattle.table.proofs.Table.{tables-numbered}
 use Rattle.gauging.specs.Capacity.{kindTests, levelTests, volumeTests, volumeOn, volumeTold}
 use Rattle.gauging.specs.declared.Volume.{Volume}
 use Rattle.gauging.specs.declared.Volume.the-variants.{Hundredths, Refused}
 use Rattle.gauging.proofs.Answers.{volume-refused}
 use Rattle.grading.specs.Grades.{codeTests, oilTests}
-use Rattle.car.specs.declared.Car.{Car}
 use Rattle.car.specs.declared.Measured.{Measured}
 use Rattle.car.specs.Measured.{rows, earlyTests, lateTests, measuredTests, v0, figuresFrom, sixFigures}
 use Rattle.car.specs.Card.{cardTables}
-use Rattle.car.specs.Car.{carOf, numberTests, measured, carTests, figuresOf, ownAnswer, aloneTests, aloneAnswer}
+use Rattle.car.specs.Car.{carOf, numberTests, Intake, dipped, intakeNumber, beforeTests, dipTests, measuredOf, carTests, figuresOf, ownAnswer, aloneTests, aloneAnswer}
 
 -- the answer by an equal verdict
 by-verdict : (values : List ℕ) {v w : Verdict} → w ≡ v → answer v values ≡ answer w values
 by-verdict values e = sym (ap (λ (u : Verdict). answer u values) e)
 
+-- the tests have numbers
+pub before-numbered : (h : Intake) → numbered (beforeTests h) ≡ true
+before-numbered (dipped c) = refl
+
+dip-numbered : (h : Intake) → numbered (dipTests h) ≡ true
+dip-numbered (dipped c) = refl
+
+pub own-numbered : (ts : List Table) (h : Intake) → numbered (carTests ts h) ≡ true
+unfolding carTests measuredTests
+own-numbered ts (dipped c) = refl
+
 -- 12 and 13, the readings' tests, then 16 to 21.
-module _ (ts : List Table) (c : Car) where
+module _ (ts : List Table) (c : Intake) where
   abbrev m : Measured
-  m = measured c
+  m = measuredOf c
 
   abbrev readings : List Test
-  readings = readingsTests (c .count) (c .readings)
+  readings = dipTests c
 
   pub own-early : {k : ℕ} → k ≡ firstNumber (earlyTests ts m) → (k ≡ 0 → ⊥) → refusal k ≡ ownAnswer ts c
   unfolding ownAnswer carTests measuredTests
@@ -47,7 +58,7 @@ module _ (ts : List Table) (c : Car) where
 
     pub own-late : {j : ℕ} → j ≡ firstNumber readings → j ≡ 0 → answer (first (lateTests ts m)) (figuresOf ts c) ≡ ownAnswer ts c
     unfolding ownAnswer
-    own-late f y = by-verdict (figuresOf ts c) (from-readings ∙ accepted-append (lateTests ts m) readings (passed readings refl f y))
+    own-late f y = by-verdict (figuresOf ts c) (from-readings ∙ accepted-append (lateTests ts m) readings (passed readings (dip-numbered c) f y))
 
 -- 16 and 17 with the volume, then 18 to 21.
 module _ (ts : List Table) (m : Measured) (number : ℕ) (early : first (earlyTests ts m) ≡ accepts) where
@@ -74,25 +85,32 @@ module _ (ts : List Table) (m : Measured) (number : ℕ) (early : first (earlyTe
         rw shown (by-verdict (figuresFrom number m (v0 ts m)) (accepted-append ofOil atLevel (sym from-volume ∙ p .0)))
 
 -- a figure beside the laws, which a list without 10 refuses: a car alone with the number 0
-ten-alone : first (aloneTests cardTables (carOf (0 ∷ 1 ∷ 3 ∷ 1 ∷ 2 ∷ 1_500 ∷ 1_500 ∷ 0 ∷ 0 ∷ 0 ∷ 600 ∷ 9_500 ∷ 50 ∷ 20 ∷ []))) ≡ refuses 10
+ten-alone : first (aloneTests cardTables (dipped (carOf (0 ∷ 1 ∷ 3 ∷ 1 ∷ 2 ∷ 1_500 ∷ 1_500 ∷ 0 ∷ 0 ∷ 0 ∷ 600 ∷ 9_500 ∷ 50 ∷ 20 ∷ [])))) ≡ refuses 10
 unfolding aloneTests
 ten-alone = refl
 
--- A car alone: its tables, its number, then its own tests.
-module _ (ts : List Table) (c : Car) where
-  pub alone-tables : {k : ℕ} → k ≡ firstNumber (tablesTests ts) → (k ≡ 0 → ⊥) → refusal k ≡ aloneAnswer ts c
-  unfolding aloneAnswer aloneTests
-  alone-tables e n = by-verdict (figuresOf ts c) (refused-append (numberTests (c .number) ++ carTests ts c) (tablesTests ts) e n)
+-- A car alone: the tests before all others, 7, 8 and 10, then its own tests.
+abbrev admission : List Table → ℕ → List Test
+admission ts number = tablesTests ts ++ numberTests number
 
-  module _ (good : tablesVerdict ts ≡ accepts) {k : ℕ} (e : k ≡ firstNumber (numberTests (c .number))) where
-    from-number : first (aloneTests ts c) ≡ first (numberTests (c .number) ++ carTests ts c)
-    unfolding aloneTests
-    from-number = accepted-append (numberTests (c .number) ++ carTests ts c) (tablesTests ts) good
+module _ (ts : List Table) (number : ℕ) {k : ℕ} (e : k ≡ firstNumber (admission ts number)) (z : k ≡ 0) where
+  admitted : first (admission ts number) ≡ accepts
+  admitted = passed (admission ts number) (numbered-append (tablesTests ts) (numberTests number) (tables-numbered ts) refl) e z
 
-    pub alone-number : (k ≡ 0 → ⊥) → refusal k ≡ aloneAnswer ts c
-    unfolding aloneAnswer
-    alone-number n = by-verdict (figuresOf ts c) (from-number ∙ refused-append (carTests ts c) (numberTests (c .number)) e n)
+  pub alone-tables : tablesVerdict ts ≡ accepts
+  alone-tables = accepted-parts (numberTests number) (tablesTests ts) admitted .0
 
-    pub alone-own : k ≡ 0 → ownAnswer ts c ≡ aloneAnswer ts c
-    unfolding aloneAnswer ownAnswer
-    alone-own z = by-verdict (figuresOf ts c) (from-number ∙ accepted-append (carTests ts c) (numberTests (c .number)) (passed (numberTests (c .number)) refl e z))
+module _ (ts : List Table) (h : Intake) (none : first (beforeTests h) ≡ accepts) {k : ℕ} (e : k ≡ firstNumber (admission ts (intakeNumber h))) where
+  from-admission : first (aloneTests ts h) ≡ first (admission ts (intakeNumber h) ++ carTests ts h)
+  unfolding aloneTests
+  from-admission =
+      accepted-append (tablesTests ts ++ (numberTests (intakeNumber h) ++ carTests ts h)) (beforeTests h) none
+      ∙ ap first (sym (append-assoc (tablesTests ts) (numberTests (intakeNumber h)) (carTests ts h)))
+
+  pub alone-away : (k ≡ 0 → ⊥) → refusal k ≡ aloneAnswer ts h
+  unfolding aloneAnswer
+  alone-away n = by-verdict (figuresOf ts h) (from-admission ∙ refused-append (carTests ts h) (admission ts (intakeNumber h)) e n)
+
+  pub alone-own : k ≡ 0 → ownAnswer ts h ≡ aloneAnswer ts h
+  unfolding aloneAnswer ownAnswer
+  alone-own z = by-verdict (figuresOf ts h) (from-admission ∙ accepted-append (carTests ts h) (admission ts (intakeNumber h)) (admitted ts (intakeNumber h) e z))

@@ -10,7 +10,8 @@ use Rattle.kilograms.proofs.Distance.{gross-within, net-within, gross-below, ne
 use Rattle.car.specs.declared.Measured.{Measured}
 use Rattle.car.specs.Measured.{Mass, gross, net, mass, v0}
 use Rattle.car.specs.Exact.{volumeˣ, massˣ, distance}
-use Rattle.car.proofs.Accepted.{Passed, shows, in-range}
+use Rattle.car.specs.Inner.{Passed}
+use Rattle.car.proofs.Accepted.{shows, in-range}
 
 module _ (ts : List Table) (m : Measured) (h : Passed ts m) where
   -- no accepted car weighs more

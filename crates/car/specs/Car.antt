@@ -1,4 +1,4 @@
--- A car with readings: refusals 10 and 12 to 21 of document 01, with 23 between 15 and 16, in one list, and its answer.
+-- A car: refusals 10 and 12 to 21 of document 01, with 23 between 15 and 16, in one list, and its answer.
 use Prim.Native.Nat.{ℕ}
 use mathlib.Core.List.{List, [], _∷_, _++_}
 use lib.ListN.{getD}
@@ -47,24 +47,44 @@ measured c = record {
   impurities = c .impurities;
 }
 
+-- What is handed in of a car, as its answers go by it: its number, tests that stand before all others, those of its readings, and what is measured of it.
+
+-- a car with readings
+pub data Intake : Type 0 where
+  dipped : Car → Intake
+
+abbrev pub intakeNumber : Intake → ℕ
+intakeNumber (dipped c) = c .number
+
+-- before all others: none
+abbrev pub beforeTests : Intake → List Test
+beforeTests (dipped c) = []
+
+-- 14, 15 and 23
+abbrev pub dipTests : Intake → List Test
+dipTests (dipped c) = readingsTests (c .count) (c .readings)
+
+abbrev pub measuredOf : Intake → Measured
+measuredOf (dipped c) = measured c
+
 -- 12 to 21, on tables that are not refused
-unfoldable pub carTests : List Table → Car → List Test
-carTests ts c = measuredTests ts (readingsTests (c .count) (c .readings)) (measured c)
+unfoldable pub carTests : List Table → Intake → List Test
+carTests ts h = measuredTests ts (dipTests h) (measuredOf h)
 
 -- the six figures
-abbrev pub figuresOf : List Table → Car → List ℕ
-figuresOf ts c = sixFigures ts (c .number) (measured c)
+abbrev pub figuresOf : List Table → Intake → List ℕ
+figuresOf ts h = sixFigures ts (intakeNumber h) (measuredOf h)
 
 -- the answer on tables that are not refused, to a car whose number is in range and new
-unfoldable pub ownAnswer : List Table → Car → Answer
-ownAnswer ts c = answer (first (carTests ts c)) (figuresOf ts c)
+unfoldable pub ownAnswer : List Table → Intake → Answer
+ownAnswer ts h = answer (first (carTests ts h)) (figuresOf ts h)
 
 -- a car alone: its tables, its number, its own tests; no earlier cars, so never 11
-unfoldable pub aloneTests : List Table → Car → List Test
-aloneTests ts c = tablesTests ts ++ (numberTests (c .number) ++ carTests ts c)
+unfoldable pub aloneTests : List Table → Intake → List Test
+aloneTests ts h = beforeTests h ++ (tablesTests ts ++ (numberTests (intakeNumber h) ++ carTests ts h))
 
-unfoldable pub aloneAnswer : List Table → Car → Answer
-aloneAnswer ts c = answer (first (aloneTests ts c)) (figuresOf ts c)
+unfoldable pub aloneAnswer : List Table → Intake → Answer
+aloneAnswer ts h = answer (first (aloneTests ts h)) (figuresOf ts h)
 
 -- what the code's answer says
 abbrev pub carTold : CarAnswer → Answer

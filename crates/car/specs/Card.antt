@@ -12,7 +12,7 @@ use Rattle.gauging.specs.Capacity.{capacityAnswer}
 use Rattle.heating.specs.Steps.{exponent}
 use Rattle.heating.specs.Answers.{expansionAnswer, factorAnswer, density20Answer}
 use Rattle.kilograms.specs.Steps.{stickCoefficient, hotVolume}
-use Rattle.car.specs.Car.{carOf, aloneAnswer}
+use Rattle.car.specs.Car.{carOf, dipped, aloneAnswer}
 
 -- the table of document 01's sheet
 abbrev pub cardTables : List Table
@@ -45,17 +45,17 @@ gives a b = record { reckoned = a; card = b }
 
 -- a car alone shows six figures, passes, or is refused
 abbrev shows : List ℕ → List ℕ → Figure
-shows ns values = gives (aloneAnswer cardTables (carOf ns)) (figures values)
+shows ns values = gives (aloneAnswer cardTables (dipped (carOf ns))) (figures values)
 
 abbrev withoutFigures : Answer → Answer
 withoutFigures (figures values) = figures []
 withoutFigures (refusal n) = refusal n
 
 abbrev passes : List ℕ → Figure
-passes ns = gives (withoutFigures (aloneAnswer cardTables (carOf ns))) (figures [])
+passes ns = gives (withoutFigures (aloneAnswer cardTables (dipped (carOf ns)))) (figures [])
 
 abbrev refused : ℕ → List ℕ → Figure
-refused n ns = gives (aloneAnswer cardTables (carOf ns)) (refusal n)
+refused n ns = gives (aloneAnswer cardTables (dipped (carOf ns))) (refusal n)
 
 -- the first car of document 01's sheet
 abbrev pub firstCar : List ℕ
@@ -209,9 +209,9 @@ card =
     ∷ refused 21 (withOil 2 600 9_635 0 0)
     ∷ passes (withOil 4 600 9_900 0 0)
     -- two faults: the first in the list is given
-    ∷ gives (aloneAnswer (badType ∷ []) (carOf (withNumber 0))) (refusal 7)
-    ∷ gives (aloneAnswer (badRow ∷ []) (carOf (withNumber 0))) (refusal 8)
-    ∷ gives (aloneAnswer (badRow ∷ badType ∷ []) (carOf firstCar)) (refusal 8)
+    ∷ gives (aloneAnswer (badType ∷ []) (dipped (carOf (withNumber 0)))) (refusal 7)
+    ∷ gives (aloneAnswer (badRow ∷ []) (dipped (carOf (withNumber 0)))) (refusal 8)
+    ∷ gives (aloneAnswer (badRow ∷ badType ∷ []) (dipped (carOf firstCar))) (refusal 8)
     ∷ refused 10 (0 ∷ 2 ∷ 3 ∷ 1 ∷ 2 ∷ 1_500 ∷ 1_500 ∷ 0 ∷ 0 ∷ 0 ∷ 600 ∷ 9_500 ∷ 50 ∷ 20 ∷ [])
     ∷ refused 12 (withCodes 2 0 1)
     ∷ refused 13 (50_000_001 ∷ 1 ∷ 0 ∷ 1 ∷ 3 ∷ 1_500 ∷ 1_500 ∷ 0 ∷ 0 ∷ 0 ∷ 600 ∷ 9_500 ∷ 50 ∷ 20 ∷ [])

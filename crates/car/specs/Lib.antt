@@ -4,3 +4,4 @@ pub mod Car
 pub mod Card
 pub mod OperationsCard
 pub mod ExactCard
+pub mod Inner

@@ -2,7 +2,7 @@
 use Prim.Native.Nat.{ℕ, _<_}
 use mathlib.Core.Path.{_≡_, refl, ap, ap₂, sym, _∙_}
 use mathlib.Core.Bool.{true, false, not, _||_}
-use mathlib.Core.List.{List}
+use mathlib.Core.List.{List, _++_}
 use lib.Dec.{ltb}
 use borrow.Author.Tests.{le-ltb, leb-false, ltb-false, not-false}
 use Rattle.base.specs.Limits.{mostCars, gradeCount}
@@ -11,11 +11,10 @@ use Rattle.base.proofs.Choice.{never, neither}
 use Rattle.base.proofs.Numbers.{inside}
 use Rattle.base.proofs.Answer.{not-applied, passed, by-number, refuses-append, refused-append, accepted-append, answer-figures}
 use Rattle.table.specs.Table.{Table, tablesTests, tablesVerdict}
-use Rattle.car.specs.declared.Car.{Car}
 use Rattle.car.specs.declared.CarAnswer.{CarAnswer}
 use Rattle.car.specs.declared.CarAnswer.the-variants.{Accepted, Refused}
 use Rattle.car.specs.Measured.{gross, net, mass, sixFigures}
-use Rattle.car.specs.Car.{measured, carTests, figuresOf, ownAnswer, carTold}
+use Rattle.car.specs.Car.{Intake, intakeNumber, beforeTests, measuredOf, carTests, figuresOf, ownAnswer, carTold}
 use Rattle.car.proofs.Accepted.{passed-car, grade-known}
 use Rattle.summing.specs.Sums.{sumsOf, mostInTrain, together, sameTotals, sameSums}
 use Rattle.consist.specs.Train.{Train, heldBy, carsOf, shownIn, twice, unsound, full, trainTests, admissionTests, enterTests, enterAnswer, withMasses, afterBy, enterTrain}
@@ -76,21 +75,30 @@ place-tests t number h = simp (sound-not t h)
 
 -- A car that 7 to 11 turn away, and one that they do not.
 
-module _ (ts : List Table) (t : Train) (c : Car) where
+module _ (ts : List Table) (t : Train) (c : Intake) where
   admission-refused : {k : ℕ} → first (admissionTests ts t c) ≡ refuses k → (refusal k ≡ enterAnswer ts t c) × (t ≡ enterTrain ts t c)
   unfolding enterTests enterAnswer enterTrain
   admission-refused h = (simp (refuses-append (carTests ts c) (admissionTests ts t c) h), simp h)
 
-  -- turned away by its tables
-  pub tables-away : {k : ℕ} → k ≡ firstNumber (tablesTests ts) → (k ≡ 0 → ⊥) → (refusal k ≡ enterAnswer ts t c) × (t ≡ enterTrain ts t c)
+  -- turned away by a test before all others
+  pub before-away : {k : ℕ} → first (beforeTests c) ≡ refuses k → (refusal k ≡ enterAnswer ts t c) × (t ≡ enterTrain ts t c)
   unfolding admissionTests
-  tables-away e n = admission-refused (refused-append (trainTests t (c .number)) (tablesTests ts) e n)
+  before-away e = admission-refused (refuses-append (tablesTests ts ++ trainTests t (intakeNumber c)) (beforeTests c) e)
+
+  -- where none of these applies
+  module _ (none : first (beforeTests c) ≡ accepts) where
+    by-tables : first (admissionTests ts t c) ≡ first (tablesTests ts ++ trainTests t (intakeNumber c))
+    unfolding admissionTests
+    by-tables = accepted-append (tablesTests ts ++ trainTests t (intakeNumber c)) (beforeTests c) none
+
+    -- turned away by its tables
+    pub tables-away : {k : ℕ} → k ≡ firstNumber (tablesTests ts) → (k ≡ 0 → ⊥) → (refusal k ≡ enterAnswer ts t c) × (t ≡ enterTrain ts t c)
+    tables-away e n = admission-refused (by-tables ∙ refused-append (trainTests t (intakeNumber c)) (tablesTests ts) e n)
 
   -- on tables that are not refused
-  module _ (good : tablesVerdict ts ≡ accepts) where
-    by-train : first (admissionTests ts t c) ≡ first (trainTests t (c .number))
-    unfolding admissionTests
-    by-train = accepted-append (trainTests t (c .number)) (tablesTests ts) good
+  module _ (none : first (beforeTests c) ≡ accepts) (good : tablesVerdict ts ≡ accepts) where
+    by-train : first (admissionTests ts t c) ≡ first (trainTests t (intakeNumber c))
+    by-train = by-tables none ∙ accepted-append (trainTests t (intakeNumber c)) (tablesTests ts) good
 
     -- turned away by 9, but for its numbers
     pub unsound-away : unsound t ≡ true → (refusal 9 ≡ enterAnswer ts t c) × (t ≡ enterTrain ts t c)
@@ -98,40 +106,40 @@ module _ (ts : List Table) (t : Train) (c : Car) where
     unsound-away e = admission-refused (by-train ∙ simp e)
 
     -- turned away by 9 to 11
-    away : {k : ℕ} → k ≡ firstNumber (trainTests t (c .number)) → (k ≡ 0 → ⊥) → (refusal k ≡ enterAnswer ts t c) × (t ≡ enterTrain ts t c)
-    away e n = admission-refused (by-train ∙ by-number (first (trainTests t (c .number))) e n)
+    away : {k : ℕ} → k ≡ firstNumber (trainTests t (intakeNumber c)) → (k ≡ 0 → ⊥) → (refusal k ≡ enterAnswer ts t c) × (t ≡ enterTrain ts t c)
+    away e n = admission-refused (by-train ∙ by-number (first (trainTests t (intakeNumber c))) e n)
 
   -- on such tables, in a sound train
-  module _ (good : tablesVerdict ts ≡ accepts) (sound : SoundTrain t) where
-    pub place-away : {k : ℕ} → k ≡ firstNumber (placeTests (t .held) (t .numbers) (c .number)) → (k ≡ 0 → ⊥) → (refusal k ≡ enterAnswer ts t c) × (t ≡ enterTrain ts t c)
-    place-away e n = away good (e ∙ sym (ap firstNumber (place-tests t (c .number) sound))) n
+  module _ (none : first (beforeTests c) ≡ accepts) (good : tablesVerdict ts ≡ accepts) (sound : SoundTrain t) where
+    pub place-away : {k : ℕ} → k ≡ firstNumber (placeTests (t .held) (t .numbers) (intakeNumber c)) → (k ≡ 0 → ⊥) → (refusal k ≡ enterAnswer ts t c) × (t ≡ enterTrain ts t c)
+    place-away e n = away none good (e ∙ sym (ap firstNumber (place-tests t (intakeNumber c) sound))) n
 
     -- past 9 to 11, the car's own answer
-    none-applies : {k : ℕ} → k ≡ firstNumber (placeTests (t .held) (t .numbers) (c .number)) → k ≡ 0 → first (placeTests (t .held) (t .numbers) (c .number)) ≡ accepts
-    none-applies e z = passed (placeTests (t .held) (t .numbers) (c .number)) refl e z
+    none-applies : {k : ℕ} → k ≡ firstNumber (placeTests (t .held) (t .numbers) (intakeNumber c)) → k ≡ 0 → first (placeTests (t .held) (t .numbers) (intakeNumber c)) ≡ accepts
+    none-applies e z = passed (placeTests (t .held) (t .numbers) (intakeNumber c)) refl e z
 
-    pub place-left : {k : ℕ} → k ≡ firstNumber (placeTests (t .held) (t .numbers) (c .number)) → k ≡ 0 → t .held < mostCars
-    place-left e z = leb-false mostCars (t .held) (not-applied 9 (placeTests (t .held) (t .numbers) (c .number)) (none-applies e z))
+    pub place-left : {k : ℕ} → k ≡ firstNumber (placeTests (t .held) (t .numbers) (intakeNumber c)) → k ≡ 0 → t .held < mostCars
+    place-left e z = leb-false mostCars (t .held) (not-applied 9 (placeTests (t .held) (t .numbers) (intakeNumber c)) (none-applies e z))
 
-    pub taken-in : (a : CarAnswer) {k : ℕ} → k ≡ firstNumber (placeTests (t .held) (t .numbers) (c .number)) → k ≡ 0 → carTold a ≡ ownAnswer ts c
-        → (carTold a ≡ enterAnswer ts t c) × (withAnswer t (c .number) (c .grade) a ≡ enterTrain ts t c)
+    pub taken-in : (a : CarAnswer) {k : ℕ} → k ≡ firstNumber (placeTests (t .held) (t .numbers) (intakeNumber c)) → k ≡ 0 → carTold a ≡ ownAnswer ts c
+        → (carTold a ≡ enterAnswer ts t c) × (withAnswer t (intakeNumber c) (measuredOf c .grade) a ≡ enterTrain ts t c)
     unfolding ownAnswer enterTests enterAnswer enterTrain sixFigures mass
     taken-in a z n e =
-        let h : first (admissionTests ts t c) ≡ accepts = by-train good ∙ ap first (place-tests t (c .number) sound) ∙ none-applies z n in
+        let h : first (admissionTests ts t c) ≡ accepts = by-train none good ∙ ap first (place-tests t (intakeNumber c) sound) ∙ none-applies z n in
         (simp (accepted-append (carTests ts c) (admissionTests ts t c) h) e, simp h (by-answer a (first (carTests ts c)) e))
       where
-        by-answer : (a : CarAnswer) (v : Verdict) → carTold a ≡ answer v (figuresOf ts c) → withAnswer t (c .number) (c .grade) a ≡ afterBy accepts v ts t c
+        by-answer : (a : CarAnswer) (v : Verdict) → carTold a ≡ answer v (figuresOf ts c) → withAnswer t (intakeNumber c) (measuredOf c .grade) a ≡ afterBy accepts v ts t c
         by-answer (Accepted f) accepts e =
-            let g : f .gross ≡ mass gross ts (measured c) = cc in
-            let n : f .net ≡ mass net ts (measured c) = cc in
-            ap₂ (λ (x y : ℕ). withMasses t (c .number) (shownAs (c .grade) x y)) g n
+            let g : f .gross ≡ mass gross ts (measuredOf c) = cc in
+            let n : f .net ≡ mass net ts (measuredOf c) = cc in
+            ap₂ (λ (x y : ℕ). withMasses t (intakeNumber c) (shownAs (measuredOf c .grade) x y)) g n
         by-answer (Accepted f) (refuses k) e = never (cc)
         by-answer (Refused n) accepts e = never (cc)
         by-answer (Refused n) (refuses k) e = refl
 
 -- a car is accepted only with a grade that there is
-pub graded : (ts : List Table) (c : Car) (a : CarAnswer) → tablesVerdict ts ≡ accepts → carTold a ≡ ownAnswer ts c → Graded (c .grade) a
+pub graded : (ts : List Table) (c : Intake) (a : CarAnswer) → tablesVerdict ts ≡ accepts → carTold a ≡ ownAnswer ts c → Graded (measuredOf c .grade) a
 unfolding ownAnswer
 graded ts c (Refused n) good e = tt
 graded ts c (Accepted f) good e =
-    inside 1 gradeCount (c .grade) (grade-known ts (measured c) (passed-car c good (answer-figures (first (carTests ts c)) e .0) .early))
+    inside 1 gradeCount (measuredOf c .grade) (grade-known ts (measuredOf c) (passed-car c good (answer-figures (first (carTests ts c)) e .0) .early))

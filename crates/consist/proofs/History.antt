@@ -14,9 +14,8 @@ use Rattle.base.proofs.Choice.{cond-either}
 use Rattle.base.proofs.Numbers.{any-snoc}
 use Rattle.base.proofs.Lists.{map-append, selected-append}
 use Rattle.table.specs.Table.{Table}
-use Rattle.car.specs.declared.Car.{Car}
 use Rattle.car.specs.Measured.{mass, sixFigures}
-use Rattle.car.specs.Car.{carTests, figuresOf}
+use Rattle.car.specs.Car.{carTests, figuresOf, Intake, intakeNumber}
 use Rattle.consist.specs.Train.{Train}
 use Rattle.consist.specs.Book.{Item, car, strike, numberIn, bookAdmission, bookStrike}
 use Rattle.consist.specs.Demand3.{verdictIn, answerTo, trainWith, answersFrom, struckIn, Standing, standing, shownOf, shown, firstStrike, Found}
@@ -37,17 +36,17 @@ module _ (is : List Item) (answers : List Answer) where
   abbrev lasting : List Kept → List Kept
   lasting ks = selected (λ k. not (struckIn is (numberFor k))) ks
 
-  history-car : (ks : List Kept) (ts : List Table) (c : Car) (admission own : Verdict)
+  history-car : (ks : List Kept) (ts : List Table) (c : Intake) (admission own : Verdict)
       → takenIn (lasting (ks ++ keptBy admission own ts c)) ++ map on (standing is answers)
       ≡ takenIn (lasting ks) ++ map on (standing (car ts c ∷ is) (answer (followed admission own) (figuresOf ts c) ∷ answers))
   history-car ks ts c (refuses n) own = ap (λ (l : List Kept). takenIn (lasting l) ++ map on (standing is answers)) (append-nil ks)
   history-car ks ts c accepts (refuses n) =
       ap (λ (l : List Accepted). l ++ map on (standing is answers))
-      (ap takenIn (selected-append (λ k. not (struckIn is (numberFor k))) ks (turned (c .number) ∷ []))
-      ∙ taken-append (lasting ks) (lasting (turned (c .number) ∷ []))
-      ∙ go (struckIn is (c .number)))
+      (ap takenIn (selected-append (λ k. not (struckIn is (numberFor k))) ks (turned (intakeNumber c) ∷ []))
+      ∙ taken-append (lasting ks) (lasting (turned (intakeNumber c) ∷ []))
+      ∙ go (struckIn is (intakeNumber c)))
     where
-      go : (b : Bool) → takenIn (lasting ks) ++ takenIn (cond (not b) (turned (c .number) ∷ []) []) ≡ takenIn (lasting ks)
+      go : (b : Bool) → takenIn (lasting ks) ++ takenIn (cond (not b) (turned (intakeNumber c) ∷ []) []) ≡ takenIn (lasting ks)
       go true = append-nil (takenIn (lasting ks))
       go false = append-nil (takenIn (lasting ks))
   history-car ks ts c accepts accepts =
@@ -55,17 +54,17 @@ module _ (is : List Item) (answers : List Answer) where
       ap (λ (l : List Accepted). l ++ map on (standing is answers))
       (ap takenIn (selected-append (λ k. not (struckIn is (numberFor k))) ks (taken a ∷ []))
       ∙ taken-append (lasting ks) (lasting (taken a ∷ [])))
-      ∙ go (struckIn is (c .number))
+      ∙ go (struckIn is (intakeNumber c))
     where
       go : (b : Bool) → takenIn (lasting ks) ++ takenIn (cond (not b) (taken (record { tables = ts; car = c }) ∷ []) []) ++ map on (standing is answers)
           ≡ takenIn (lasting ks) ++ map on (cond b (standing is answers) (record { tables = ts; car = c; values = figuresOf ts c } ∷ standing is answers))
       go true = ap (λ (l : List Accepted). l ++ map on (standing is answers)) (append-nil (takenIn (lasting ks)))
       go false = append-assoc (takenIn (lasting ks)) (record { tables = ts; car = c } ∷ []) (map on (standing is answers))
 
-  right-car : (ts : List Table) (c : Car) (v : Verdict) → Each Right (standing is answers) → Each Right (standing (car ts c ∷ is) (answer v (figuresOf ts c) ∷ answers))
+  right-car : (ts : List Table) (c : Intake) (v : Verdict) → Each Right (standing is answers) → Each Right (standing (car ts c ∷ is) (answer v (figuresOf ts c) ∷ answers))
   unfolding sixFigures mass
   right-car ts c (refuses n) h = h
-  right-car ts c accepts h = cond-either (Each Right) (struckIn is (c .number)) _ _ (λ _. h) (λ _. (refl, h))
+  right-car ts c accepts h = cond-either (Each Right) (struckIn is (intakeNumber c)) _ _ (λ _. h) (λ _. (refl, h))
 
 -- one item more in front
 pub history-step : (t : Train) (ks : List Kept) → Matches t ks → (i : Item) (is : List Item) (answers : List Answer)
@@ -98,21 +97,21 @@ kept-found n (strike k ∷ items) t ks m e =
     (λ h. kept-found n items (trainWith t (strike k)) (keptStep ks (strike k)) (matched t ks m (strike k)) (member-others numberFor n k ks h e))
 
 -- an accepted car is kept
-accepted-kept : (t : Train) (ks : List Kept) → Matches t ks → (ts : List Table) (c : Car) → verdictIn (answerTo t (car ts c)) ≡ accepts
-    → member (c .number) (map numberFor (keptStep ks (car ts c))) ≡ true
+accepted-kept : (t : Train) (ks : List Kept) → Matches t ks → (ts : List Table) (c : Intake) → verdictIn (answerTo t (car ts c)) ≡ accepts
+    → member (intakeNumber c) (map numberFor (keptStep ks (car ts c))) ≡ true
 accepted-kept t ks m ts c e =
     let p = accepted-parts (carTests ts c) (bookAdmission (bookOf ks) ts c) (sym (said t ks m (car ts c)) ∙ e) in
     rw (p .0, p .1)
-    (ap (member (c .number)) (map-append numberFor ks (taken (record { tables = ts; car = c }) ∷ []))
-    ∙ any-snoc (λ (y : ℕ). eqb y (c .number)) (map numberFor ks) (c .number)
-    ∙ ap (λ (b : Bool). member (c .number) (map numberFor ks) || b) (eq-eqb (c .number) (c .number) refl)
-    ∙ or-true (member (c .number) (map numberFor ks)))
+    (ap (member (intakeNumber c)) (map-append numberFor ks (taken (record { tables = ts; car = c }) ∷ []))
+    ∙ any-snoc (λ (y : ℕ). eqb y (intakeNumber c)) (map numberFor ks) (intakeNumber c)
+    ∙ ap (λ (b : Bool). member (intakeNumber c) (map numberFor ks) || b) (eq-eqb (intakeNumber c) (intakeNumber c) refl)
+    ∙ or-true (member (intakeNumber c) (map numberFor ks)))
 
 pub found-from : (items : List Item) (t : Train) (ks : List Kept) → Matches t ks → Found items (answersFrom t items)
 found-from [] t ks m = tt
 found-from (car ts c ∷ items) t ks m =
     let next = matched t ks m (car ts c) in (
-      (λ e. kept-found (c .number) items (trainWith t (car ts c)) (keptStep ks (car ts c)) next (accepted-kept t ks m ts c e)),
+      (λ e. kept-found (intakeNumber c) items (trainWith t (car ts c)) (keptStep ks (car ts c)) next (accepted-kept t ks m ts c e)),
       found-from items (trainWith t (car ts c)) (keptStep ks (car ts c)) next,
     )
 found-from (strike n ∷ items) t ks m = found-from items (trainWith t (strike n)) (keptStep ks (strike n)) (matched t ks m (strike n))

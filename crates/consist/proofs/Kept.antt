@@ -17,9 +17,8 @@ use Rattle.base.proofs.Lists.{each-append, map-append, length-map, selected-map
 use Rattle.base.proofs.Total.{total-most}
 use Rattle.table.specs.Table.{Table, tablesTests, tablesVerdict}
 use Rattle.kilograms.specs.Inner.{mostInCar}
-use Rattle.car.specs.declared.Car.{Car}
 use Rattle.car.specs.Measured.{Mass, gross, net, mass}
-use Rattle.car.specs.Car.{numberTests, measured, carTests, figuresOf}
+use Rattle.car.specs.Car.{numberTests, Intake, intakeNumber, beforeTests, measuredOf, carTests, figuresOf}
 use Rattle.car.proofs.Accepted.{passed-car}
 use Rattle.summing.specs.declared.Sums.{Sums}
 use Rattle.summing.specs.Sums.{Shown, shownMass, totalsOf, sumsOf, sumsWith}
@@ -46,7 +45,7 @@ entryFor (taken a) = loaded (loadFor a)
 
 abbrev pub heldFor : Kept → Held
 heldFor (turned number) = refused number
-heldFor (taken a) = weighed (a .car .number) (shownFor a)
+heldFor (taken a) = weighed (intakeNumber (a .car)) (shownFor a)
 
 abbrev pub numberFor : Kept → ℕ
 numberFor k = numberIn (entryFor k)
@@ -91,7 +90,7 @@ shown-are (taken a ∷ ks) = ap (λ (l : List Shown). shownFor a ∷ l) (shown-a
 numbers-are : (ks : List Kept) → map heldNumber (map heldFor ks) ≡ map numberFor ks
 numbers-are [] = refl
 numbers-are (turned n ∷ ks) = ap (λ (l : List ℕ). n ∷ l) (numbers-are ks)
-numbers-are (taken a ∷ ks) = ap (λ (l : List ℕ). a .car .number ∷ l) (numbers-are ks)
+numbers-are (taken a ∷ ks) = ap (λ (l : List ℕ). intakeNumber (a .car) ∷ l) (numbers-are ks)
 
 -- A train that holds them.
 
@@ -138,7 +137,7 @@ module _ (t : Train) (ks : List Kept) (m : Matches t ks) where
   unfolding full
   full-is = simp (sound-not t matched-sound, m .held, length-map entryFor ks)
 
-  admission-is : (ts : List Table) (c : Car) → admissionTests ts t c ≡ bookAdmission (bookOf ks) ts c
+  admission-is : (ts : List Table) (c : Intake) → admissionTests ts t c ≡ bookAdmission (bookOf ks) ts c
   unfolding admissionTests bookAdmission
   admission-is ts c = simp (full-is, entries)
 
@@ -147,25 +146,25 @@ module _ (t : Train) (ks : List Kept) (m : Matches t ks) where
   strike-is number = simp (sound-not t matched-sound, entries)
 
 -- where no test before the car's own applies, its tables are not refused, there is a place, and its number is new
-module _ (b : List Entry) (ts : List Table) (c : Car) (e : first (bookAdmission b ts c) ≡ accepts) where
+module _ (b : List Entry) (ts : List Table) (c : Intake) (e : first (bookAdmission b ts c) ≡ accepts) where
   abbrev placeTests : List Test
-  placeTests = refuseIf 9 (leb mostCars (length b)) ∷ (numberTests (c .number) ++ (refuseIf 11 (member (c .number) (map numberIn b)) ∷ []))
+  placeTests = refuseIf 9 (leb mostCars (length b)) ∷ (numberTests (intakeNumber c) ++ (refuseIf 11 (member (intakeNumber c) (map numberIn b)) ∷ []))
 
   split : (tablesVerdict ts ≡ accepts) × (first placeTests ≡ accepts)
   unfolding bookAdmission
-  split = accepted-parts placeTests (tablesTests ts) e
+  split = accepted-parts placeTests (tablesTests ts) (accepted-parts (tablesTests ts ++ placeTests) (beforeTests c) e .1)
 
   place : length b < mostCars
   place = leb-false mostCars (length b) (not-applied 9 placeTests (split .1))
 
-  new : member (c .number) (map numberIn b) ≡ false
+  new : member (intakeNumber c) (map numberIn b) ≡ false
   new = not-applied 11 placeTests (split .1)
 
 -- One item: the cars that are kept then.
 
-abbrev pub keptBy : Verdict → Verdict → List Table → Car → List Kept
+abbrev pub keptBy : Verdict → Verdict → List Table → Intake → List Kept
 keptBy (refuses n) own ts c = []
-keptBy accepts (refuses n) ts c = turned (c .number) ∷ []
+keptBy accepts (refuses n) ts c = turned (intakeNumber c) ∷ []
 keptBy accepts accepts ts c = taken (record { tables = ts; car = c }) ∷ []
 
 abbrev pub others : ℕ → List Kept → List Kept
@@ -187,7 +186,7 @@ book-step ks (car ts c) =
 book-step ks (strike number) = sym (selected-map entryFor (λ e. not (eqb (numberIn e) number)) ks)
 
 -- a car is entered
-module _ (t : Train) (ks : List Kept) (m : Matches t ks) (ts : List Table) (c : Car) where
+module _ (t : Train) (ks : List Kept) (m : Matches t ks) (ts : List Table) (c : Intake) where
   -- one more place, of gross x and net y, with the sums that the cars then make
   one-more : (k : Kept) (sums : Sums) (grade x y : ℕ) → length ks < mostCars → member (numberFor k) (map numberFor ks) ≡ false
       → heldAs (numberFor k) grade x y ≡ heldFor k → sums ≡ sumsOf (map shownFor (takenIn (ks ++ (k ∷ [])))) → OkKept k
@@ -205,8 +204,8 @@ module _ (t : Train) (ks : List Kept) (m : Matches t ks) (ts : List Table) (c : 
         each = each-append OkKept ks (k ∷ []) (m .each) (ok, tt);
       }
 
-  fresh : first (bookAdmission (bookOf ks) ts c) ≡ accepts → member (c .number) (map numberFor ks) ≡ false
-  fresh e = ap (member (c .number)) (sym (map-map numberIn entryFor ks)) ∙ new (bookOf ks) ts c e
+  fresh : first (bookAdmission (bookOf ks) ts c) ≡ accepts → member (intakeNumber c) (map numberFor ks) ≡ false
+  fresh e = ap (member (intakeNumber c)) (sym (map-map numberIn entryFor ks)) ∙ new (bookOf ks) ts c e
 
   low-place : first (bookAdmission (bookOf ks) ts c) ≡ accepts → length ks < mostCars
   low-place e = omega (arith, place (bookOf ks) ts c e, length-map entryFor ks)
@@ -215,7 +214,7 @@ module _ (t : Train) (ks : List Kept) (m : Matches t ks) (ts : List Table) (c : 
       → Matches (afterBy admission own ts t c) (ks ++ keptBy admission own ts c)
   by-verdicts (refuses n) own p q = rw (append-nil ks) m
   by-verdicts accepts (refuses n) p q =
-      let k : Kept = turned (c .number) in
+      let k : Kept = turned (intakeNumber c) in
       one-more k (t .sums) 0 0 0 (low-place p) (fresh p) refl
       (m .sums ∙ ap (λ (l : List Accepted). sumsOf (map shownFor l)) (sym (taken-append ks (k ∷ []) ∙ append-nil (takenIn ks)))) tt
   by-verdicts accepts accepts p q =
@@ -223,13 +222,13 @@ module _ (t : Train) (ks : List Kept) (m : Matches t ks) (ts : List Table) (c : 
       let k : Kept = taken a in
       let ok : Ok a = passed-car c (split (bookOf ks) ts c p .0) q in
       let g = car-known a ok in
-      one-more k (sumsWith (t .sums) (shownFor a)) (c .grade) (mass gross ts (measured c)) (mass net ts (measured c)) (low-place p) (fresh p)
-      (with-grade (c .grade) (g .0))
+      one-more k (sumsWith (t .sums) (shownFor a)) (measuredOf c .grade) (mass gross ts (measuredOf c)) (mass net ts (measuredOf c)) (low-place p) (fresh p)
+      (with-grade (measuredOf c .grade) (g .0))
       (ap (λ (x : Sums). sumsWith x (shownFor a)) (m .sums)
       ∙ sym (sums-snoc (map shownFor (takenIn ks)) (shownFor a))
       ∙ ap sumsOf (sym (ap (map shownFor) (taken-append ks (k ∷ [])) ∙ map-append shownFor (takenIn ks) (a ∷ [])))) ok
     where
-      with-grade : (g : ℕ) → 1 ≤ g → heldAs (c .number) g (mass gross ts (measured c)) (mass net ts (measured c)) ≡ weighed (c .number) (record { grade = g; gross = mass gross ts (measured c); net = mass net ts (measured c) })
+      with-grade : (g : ℕ) → 1 ≤ g → heldAs (intakeNumber c) g (mass gross ts (measuredOf c)) (mass net ts (measuredOf c)) ≡ weighed (intakeNumber c) (record { grade = g; gross = mass gross ts (measuredOf c); net = mass net ts (measuredOf c) })
       with-grade g h = simp (ne-eqb g 0 (λ e. omega arith))
 
   entered : Matches (trainWith t (car ts c)) (keptStep ks (car ts c))

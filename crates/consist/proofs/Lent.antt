@@ -31,6 +31,12 @@ lent-made t numbers grades grosses nets e =
     ap (λ (s : Sums). talliedTrain (record { sums = s; held = t .held }) numbers grades grosses nets)
     (ap (λ (l : List Held). sumsOf (shownIn l)) (cars-of-rows t numbers grades grosses nets 0 (t .held)) ∙ sym e)
 
+-- the rows' own sums are such
+pub lent-sums : (held : ℕ) (numbers grades grosses nets : List ℕ) → let t = lentTrain held numbers grades grosses nets in t .sums ≡ sumsOf (shownIn (carsOf t))
+lent-sums held numbers grades grosses nets =
+    let t = lentTrain held numbers grades grosses nets in
+    ap (λ (l : List Held). sumsOf (shownIn l)) (cars-of-rows (record { sums = t .sums; held = held }) numbers grades grosses nets 0 held)
+
 pub lent-empty : lentTrain 0 (emptyTrain .numbers) (emptyTrain .grades) (emptyTrain .grosses) (emptyTrain .nets) ≡ emptyTrain
 lent-empty = lent-made (record { sums = emptyTrain .sums; held = 0 }) (emptyTrain .numbers) (emptyTrain .grades) (emptyTrain .grosses) (emptyTrain .nets) sums-none
 

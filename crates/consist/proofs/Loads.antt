@@ -17,11 +17,11 @@ use Rattle.base.proofs.Total.{total-map, totalˣ-map, total-within, total-same}
 use Rattle.table.specs.Table.{Table}
 use Rattle.heating.specs.Exact.{Power}
 use Rattle.kilograms.specs.Inner.{mostInCar}
-use Rattle.car.specs.declared.Car.{Car}
 use Rattle.car.specs.Measured.{Mass, gross, net}
-use Rattle.car.specs.Car.{measured}
+use Rattle.car.specs.Car.{Intake, measuredOf}
 use Rattle.car.specs.Exact.{distance}
-use Rattle.car.proofs.Accepted.{Passed, grade-known}
+use Rattle.car.specs.Inner.{Passed}
+use Rattle.car.proofs.Accepted.{grade-known}
 use Rattle.car.proofs.Masses.{mass-most, mass-near}
 use Rattle.summing.specs.Sums.{Shown, shownMass, ofGrade, totalsOf}
 use Rattle.summing.proofs.Adding.{Known}
@@ -31,11 +31,11 @@ use Rattle.consist.specs.Demand3.{shown, Beside}
 
 pub record Accepted : Type 0 where
   pub tables : List Table
-  pub car : Car
+  pub car : Intake
 
 -- no refusal of the tables or of the car applies
 abbrev pub Ok : Accepted → Type 0
-Ok a = Passed (a .tables) (measured (a .car))
+Ok a = Passed (a .tables) (measuredOf (a .car))
 
 -- what it adds to the sums, and its masses in the book
 abbrev pub shownFor : Accepted → Shown
@@ -46,11 +46,11 @@ loadFor a = loadOf (a .tables) (a .car)
 
 -- its grade is one of the four, and its masses are those of a car
 pub car-known : (a : Accepted) → Ok a → Known (shownFor a)
-car-known a h = inside 1 gradeCount (a .car .grade) (grade-known (a .tables) (measured (a .car)) (h .early))
+car-known a h = inside 1 gradeCount (measuredOf (a .car) .grade) (grade-known (a .tables) (measuredOf (a .car)) (h .early))
 
 pub car-most : (k : Mass) (a : Accepted) → Ok a → shownMass k (shownFor a) ≤ mostInCar
-car-most gross a h = mass-most (a .tables) (measured (a .car)) h gross
-car-most net a h = mass-most (a .tables) (measured (a .car)) h net
+car-most gross a h = mass-most (a .tables) (measuredOf (a .car)) h gross
+car-most net a h = mass-most (a .tables) (measuredOf (a .car)) h net
 
 -- what holds of each car holds of what is shown of it
 pub each-shown : (P : Shown → Type 0) → ((a : Accepted) → Ok a → P (shownFor a)) → (l : List Accepted) → Each Ok l → Each P (map shownFor l)
@@ -63,8 +63,8 @@ all-known l h = each-shown Known car-known l h
 -- What the distances of the cars come to.
 
 car-near : (k : Mass) (p : Power) (a : Accepted) → Ok a → Within 100 (distance k) (shownMass k (shownFor a)) (exactMass k p (loadFor a))
-car-near gross p a h = mass-near (a .tables) (measured (a .car)) h gross p
-car-near net p a h = mass-near (a .tables) (measured (a .car)) h net p
+car-near gross p a h = mass-near (a .tables) (measuredOf (a .car)) h gross p
+car-near net p a h = mass-near (a .tables) (measuredOf (a .car)) h net p
 
 all-near : (k : Mass) (p : Power) (l : List Accepted) → Each Ok l
     → Within 100 (distance k * length (map loadFor l)) (total (shownMass k) (map shownFor l)) (totalˣ (exactMass k p) (map loadFor l))

@@ -11,7 +11,8 @@ use Rattle.kilograms.specs.Steps.{stickCoefficient}
 use Rattle.kilograms.proofs.Order.{volume15-rises, gross-rises, net-rises}
 use Rattle.car.specs.declared.Measured.{Measured}
 use Rattle.car.specs.Measured.{rows, v0, sixFigures}
-use Rattle.car.proofs.Accepted.{Passed, rising, low}
+use Rattle.car.specs.Inner.{Passed}
+use Rattle.car.proofs.Accepted.{rising, low}
 use Rattle.consist.specs.Demand3.{Answered, SameTable, Alike, Comparable, Figurewise, InOrder}
 use Rattle.consist.proofs.Taken.{taken}
 

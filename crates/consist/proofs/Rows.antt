@@ -2,21 +2,20 @@
 use Prim.Native.Nat.{ℕ, _≤_, _<_}
 use mathlib.Core.Path.{_≡_, refl, ap, _∙_}
 use mathlib.Core.Bool.{Bool, true}
-use mathlib.Core.List.{List}
+use mathlib.Core.List.{List, _++_}
 use native.Mathlib.Omega.{arith}
 use lib.Dec.{leb}
 use lib.ListN.{length}
 use lib.Seq.{length-take-le}
 use borrow.Author.Tests.{leb-false, not-false}
 use Rattle.base.specs.Limits.{mostCars}
-use Rattle.base.specs.Answer.{Verdict, accepts, refuses, first, Answer}
+use Rattle.base.specs.Answer.{Test, Verdict, accepts, refuses, first, Answer}
 use Rattle.base.specs.Numbers.{member}
 use Rattle.base.proofs.Choice.{neither}
 use Rattle.base.proofs.Answer.{not-applied, accepted-parts}
 use Rattle.table.specs.Table.{Table, tablesTests}
-use Rattle.car.specs.declared.Car.{Car}
 use Rattle.car.specs.Measured.{gross, net, mass}
-use Rattle.car.specs.Car.{measured, carTests}
+use Rattle.car.specs.Car.{Intake, intakeNumber, beforeTests, measuredOf, carTests}
 use Rattle.summing.specs.Sums.{sumsWith}
 use Rattle.consist.specs.Train.{Train, heldBy, unsound, full, trainTests, admissionTests, carShown, enterAnswer, afterBy, enterTrain, strikeTests, strikeAnswer, position, struckBy, strikeTrain}
 use Rattle.consist.specs.declared.Tally.{Tally}
@@ -32,19 +31,21 @@ pub record Placed (t : Train) : Type 0 where
   pub few : t .held ≤ mostCars
 
 module _ (t : Train) (s : Sixty t) (sound : SoundTrain t) where
-  pub entered-placed : (ts : List Table) (c : Car) → Placed (enterTrain ts t c)
+  pub entered-placed : (ts : List Table) (c : Intake) → Placed (enterTrain ts t c)
   unfolding enterTrain admissionTests full
   entered-placed ts c = by-verdicts (first (admissionTests ts t c)) (first (carTests ts c)) refl
     where
       low : first (admissionTests ts t c) ≡ accepts → t .held < mostCars
-      low e = leb-false mostCars (t .held) (neither (unsound t) (leb mostCars (t .held)) (not-applied 9 (trainTests t (c .number)) (accepted-parts (trainTests t (c .number)) (tablesTests ts) e .1)) .1)
+      low e =
+          let place : List Test = trainTests t (intakeNumber c) in
+          leb-false mostCars (t .held) (neither (unsound t) (leb mostCars (t .held)) (not-applied 9 place (accepted-parts place (tablesTests ts) (accepted-parts (tablesTests ts ++ place) (beforeTests c) e .1) .1)) .1)
 
       by-verdicts : (admission own : Verdict) → first (admissionTests ts t c) ≡ admission → Placed (afterBy admission own ts t c)
       by-verdicts (refuses k) own e = record { sixty = s; few = sound .place }
-      by-verdicts accepts (refuses k) e = record { sixty = sixty-more t (t .sums) (c .number) 0 0 0 s (low e); few = omega (arith, low e) }
+      by-verdicts accepts (refuses k) e = record { sixty = sixty-more t (t .sums) (intakeNumber c) 0 0 0 s (low e); few = omega (arith, low e) }
       by-verdicts accepts accepts e =
           record {
-            sixty = sixty-more t (sumsWith (t .sums) (carShown ts c)) (c .number) (c .grade) (mass gross ts (measured c)) (mass net ts (measured c)) s (low e);
+            sixty = sixty-more t (sumsWith (t .sums) (carShown ts c)) (intakeNumber c) (measuredOf c .grade) (mass gross ts (measuredOf c)) (mass net ts (measuredOf c)) s (low e);
             few = omega (arith, low e);
           }
 
@@ -73,7 +74,7 @@ module _ (t : Tally) (numbers grades grosses nets : List ℕ) (sound : SoundTrai
   pub rows-sound : Sixty (talliedTrain t numbers grades grosses nets) → Sixty (lentTrain (t .held) numbers grades grosses nets) × SoundTrain (lentTrain (t .held) numbers grades grosses nets)
   rows-sound s = rw rows-are (s, sound)
 
-  pub rows-entered : (ts : List Table) (c : Car) {a : Answer} {next : Train}
+  pub rows-entered : (ts : List Table) (c : Intake) {a : Answer} {next : Train}
       → (a ≡ enterAnswer ts (lentTrain (t .held) numbers grades grosses nets) c) × (next ≡ enterTrain ts (lentTrain (t .held) numbers grades grosses nets) c)
       → (a ≡ enterAnswer ts (talliedTrain t numbers grades grosses nets) c) × (next ≡ enterTrain ts (talliedTrain t numbers grades grosses nets) c)
   rows-entered ts c (p, q) = (p ∙ ap (λ (u : Train). enterAnswer ts u c) rows-are, q ∙ ap (λ (u : Train). enterTrain ts u c) rows-are)

@@ -1,14 +1,15 @@
 -- An answer with figures: the car passed all its tests, and the figures are its six. Its masses lie within their distances.
 use Prim.Native.Nat.{ℕ}
 use mathlib.Core.Path.{_≡_, refl, ap}
-use mathlib.Core.List.{List}
-use Rattle.base.specs.Answer.{Verdict, accepts, refuses, first, Answer, figures, answer}
+use mathlib.Core.List.{List, _++_}
+use Rattle.base.specs.Answer.{Test, Verdict, accepts, refuses, first, Answer, figures, answer}
 use Rattle.base.proofs.Answer.{accepted-parts}
 use Rattle.table.specs.Table.{Table, tablesTests}
 use Rattle.car.specs.declared.Measured.{Measured}
 use Rattle.car.specs.Measured.{Mass, gross, net, mass, sixFigures}
-use Rattle.car.specs.Car.{carTests, figuresOf, aloneTests, aloneAnswer}
-use Rattle.car.proofs.Accepted.{Passed, passed-car, passed-alone, uncut}
+use Rattle.car.specs.Car.{intakeNumber, beforeTests, carTests, figuresOf, aloneTests, aloneAnswer}
+use Rattle.car.specs.Inner.{Passed}
+use Rattle.car.proofs.Accepted.{passed-car, passed-alone, uncut}
 use Rattle.car.proofs.Masses.{mass-near}
 use Rattle.consist.specs.Train.{trainTests, admissionTests, enterTests, enterAnswer}
 use Rattle.consist.specs.Demand3.{verdictIn, massIn, Close, Answered, alone, entered}
@@ -27,16 +28,17 @@ unfolding aloneAnswer admissionTests enterTests enterAnswer
 taken ts (alone c) e =
     let v = verdict-answered (first (aloneTests ts c)) (figuresOf ts c) e in
     record {
-      number = c .number;
+      number = intakeNumber c;
       passed = passed-alone c v;
       six = ap (λ (w : Verdict). answer w (figuresOf ts c)) v;
     }
 taken ts (entered t c) e =
     let v = verdict-answered (first (enterTests ts t c)) (figuresOf ts c) e in
     let p = accepted-parts (carTests ts c) (admissionTests ts t c) v in
+    let admission : List Test = trainTests t (intakeNumber c) in
     record {
-      number = c .number;
-      passed = passed-car c (accepted-parts (trainTests t (c .number)) (tablesTests ts) (p .0) .0) (p .1);
+      number = intakeNumber c;
+      passed = passed-car c (accepted-parts admission (tablesTests ts) (accepted-parts (tablesTests ts ++ admission) (beforeTests c) (p .0) .1) .0) (p .1);
       six = ap (λ (w : Verdict). answer w (figuresOf ts c)) v;
     }
 

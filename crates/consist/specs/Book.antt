@@ -11,15 +11,14 @@ use Rattle.base.specs.Numbers.{member}
 use Rattle.base.specs.Total.{selected}
 use Rattle.table.specs.Table.{Table, tablesTests}
 use Rattle.heating.specs.Exact.{Power}
-use Rattle.car.specs.declared.Car.{Car}
 use Rattle.car.specs.declared.Measured.{Measured}
 use Rattle.car.specs.Measured.{Mass, gross, net}
-use Rattle.car.specs.Car.{numberTests, measured, carTests}
+use Rattle.car.specs.Car.{numberTests, Intake, intakeNumber, beforeTests, measuredOf, carTests}
 use Rattle.car.specs.Exact.{massˣ}
 
 -- what is handed in, one after another: a car with whatever tables, or the number of a car that is struck
 pub data Item : Type 0 where
-  car : List Table → Car → Item
+  car : List Table → Intake → Item
   strike : ℕ → Item
 
 -- an accepted car, by its number and what is measured of it, with its exact gross and net in kg, the series taken to either power
@@ -52,11 +51,11 @@ loads (loaded k ∷ b) = k ∷ loads b
 abbrev pub loadsOfGrade : ℕ → List Load → List Load
 loadsOfGrade g ls = selected (λ l. eqb (l .measured .grade) g) ls
 
--- 7 and 8 of its tables, 9 at sixty entries, 10, and 11 where an entry has its number: no entry
-unfoldable pub bookAdmission : List Entry → List Table → Car → List Test
+-- the tests before all others, 7 and 8 of its tables, 9 at sixty entries, 10, and 11 where an entry has its number: no entry
+unfoldable pub bookAdmission : List Entry → List Table → Intake → List Test
 bookAdmission b ts c =
-    tablesTests ts
-    ++ (refuseIf 9 (leb mostCars (length b)) ∷ (numberTests (c .number) ++ (refuseIf 11 (member (c .number) (map numberIn b)) ∷ [])))
+    beforeTests c
+    ++ (tablesTests ts ++ (refuseIf 9 (leb mostCars (length b)) ∷ (numberTests (intakeNumber c) ++ (refuseIf 11 (member (intakeNumber c) (map numberIn b)) ∷ []))))
 
 -- 30 where no entry has the number
 unfoldable pub bookStrike : List Entry → ℕ → List Test
@@ -67,13 +66,13 @@ abbrev pub bookVerdict : List Entry → Item → Verdict
 bookVerdict b (car ts c) = first (bookAdmission b ts c ++ carTests ts c)
 bookVerdict b (strike number) = first (bookStrike b number)
 
-abbrev pub loadOf : List Table → Car → Load
-loadOf ts c = record { number = c .number; measured = measured c; gross = λ p. massˣ gross p ts (measured c); net = λ p. massˣ net p ts (measured c) }
+abbrev pub loadOf : List Table → Intake → Load
+loadOf ts c = record { number = intakeNumber c; measured = measuredOf c; gross = λ p. massˣ gross p ts (measuredOf c); net = λ p. massˣ net p ts (measuredOf c) }
 
 -- a later refusal enters the number alone, an accepted car its exact gross and net
-abbrev pub entryBy : Verdict → Verdict → List Table → Car → List Entry
+abbrev pub entryBy : Verdict → Verdict → List Table → Intake → List Entry
 entryBy (refuses n) own ts c = []
-entryBy accepts (refuses n) ts c = alone (c .number) ∷ []
+entryBy accepts (refuses n) ts c = alone (intakeNumber c) ∷ []
 entryBy accepts accepts ts c = loaded (loadOf ts c) ∷ []
 
 -- without the entry of a number

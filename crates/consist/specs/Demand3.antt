@@ -10,10 +10,9 @@ use Rattle.base.specs.Fraction.{Within}
 use Rattle.base.specs.Total.{totalˣ}
 use Rattle.table.specs.Table.{Table, rowsOf}
 use Rattle.heating.specs.Exact.{Power}
-use Rattle.car.specs.declared.Car.{Car}
 use Rattle.car.specs.declared.Measured.{Measured}
 use Rattle.car.specs.Measured.{Mass, gross, net}
-use Rattle.car.specs.Car.{measured, aloneAnswer}
+use Rattle.car.specs.Car.{Intake, measuredOf, aloneAnswer, intakeNumber}
 use Rattle.car.specs.Exact.{massˣ, distance, Uncut}
 use Rattle.summing.specs.declared.Totals.{Totals}
 use Rattle.summing.specs.Sums.{Shown, sumsOf, totalIn, gradeTotals, together}
@@ -72,14 +71,14 @@ struckIn (strike n ∷ is) number = eqb number n || struckIn is number
 -- an accepted car on its tables, with the figures answered for it
 pub record Standing : Type 0 where
   pub tables : List Table
-  pub car : Car
+  pub car : Intake
   pub values : List ℕ
 
 abbrev pub standing : List Item → List Answer → List Standing
 standing [] answers = []
 standing (car ts c ∷ is) [] = []
 standing (car ts c ∷ is) (figures values ∷ answers) =
-    cond (struckIn is (c .number)) (standing is answers) (record { tables = ts; car = c; values = values } ∷ standing is answers)
+    cond (struckIn is (intakeNumber c)) (standing is answers) (record { tables = ts; car = c; values = values } ∷ standing is answers)
 standing (car ts c ∷ is) (refusal number ∷ answers) = standing is answers
 standing (strike n ∷ is) [] = []
 standing (strike n ∷ is) (a ∷ answers) = standing is answers
@@ -95,12 +94,12 @@ firstStrike number (strike n ∷ is) (a ∷ answers) = cond (eqb number n) (verd
 abbrev pub Found : List Item → List Answer → Type 0
 Found [] answers = Unit {0}
 Found (i ∷ is) [] = Unit {0}
-Found (car ts c ∷ is) (a ∷ answers) = (verdictIn a ≡ accepts → firstStrike (c .number) is answers ≡ accepts) × Found is answers
+Found (car ts c ∷ is) (a ∷ answers) = (verdictIn a ≡ accepts → firstStrike (intakeNumber c) is answers ≡ accepts) × Found is answers
 Found (strike n ∷ is) (a ∷ answers) = Found is answers
 
 -- its grade and the masses answered, and its entry in the book
 abbrev pub shownOf : Standing → Shown
-shownOf s = record { grade = s .car .grade; gross = massIn gross (figures (s .values)); net = massIn net (figures (s .values)) }
+shownOf s = record { grade = measuredOf (s .car) .grade; gross = massIn gross (figures (s .values)); net = massIn net (figures (s .values)) }
 
 abbrev pub loadIn : Standing → Load
 loadIn s = loadOf (s .tables) (s .car)
@@ -141,8 +140,8 @@ pub record Continues (t : Train) (i : Item) (a : Answer) (next : Train) : Type 0
 
 -- an answer that a car of which m was measured gets, alone or entered in any train
 pub data Answered (ts : List Table) : Measured → Answer → Type 0 where
-  alone : (c : Car) → Answered ts (measured c) (aloneAnswer ts c)
-  entered : (t : Train) (c : Car) → Answered ts (measured c) (enterAnswer ts t c)
+  alone : (c : Intake) → Answered ts (measuredOf c) (aloneAnswer ts c)
+  entered : (t : Train) (c : Intake) → Answered ts (measuredOf c) (enterAnswer ts t c)
 
 -- the same capacity table: the same type and the same rows
 pub record SameTable (ts us : List Table) (m n : Measured) : Type 0 where

@@ -5,8 +5,7 @@ use mathlib.Core.List.{List, [], _∷_, _++_}
 use lib.ListN.{replicate}
 use Rattle.base.specs.Answer.{Verdict, accepts, refuses}
 use Rattle.table.specs.Table.{Table}
-use Rattle.car.specs.declared.Car.{Car}
-use Rattle.car.specs.Car.{carOf, measured, aloneAnswer}
+use Rattle.car.specs.Car.{carOf, Intake, dipped, measuredOf, aloneAnswer}
 use Rattle.car.specs.Card.{cardTables}
 use Rattle.summing.specs.declared.Totals.{Totals}
 use Rattle.summing.specs.declared.Sums.{Sums}
@@ -16,9 +15,9 @@ use Rattle.consist.specs.Book.{Item, car, Entry, alone, loaded, loadOf, 
 use Rattle.consist.specs.Demand3.{trainFrom, Comparable}
 
 -- the first car of document 01's sheet, with a number, a type and a temperature in 0.1 °C
-abbrev pub exampleCar : ℕ → ℕ → ℕ → Car
+abbrev pub exampleCar : ℕ → ℕ → ℕ → Intake
 exampleCar number kind temperature =
-    carOf (number ∷ kind ∷ 3 ∷ 1 ∷ 2 ∷ 1_500 ∷ 1_500 ∷ 0 ∷ 0 ∷ 0 ∷ temperature ∷ 9_500 ∷ 50 ∷ 20 ∷ [])
+    dipped (carOf (number ∷ kind ∷ 3 ∷ 1 ∷ 2 ∷ 1_500 ∷ 1_500 ∷ 0 ∷ 0 ∷ 0 ∷ temperature ∷ 9_500 ∷ 50 ∷ 20 ∷ []))
 
 -- a table whose second row does not rise
 abbrev pub badTables : List Table
@@ -64,8 +63,8 @@ pub record BookExample : Type 0 where
   pub sums : trainFrom emptyTrain list .sums ≡ listSums
 
 -- cars of all grades at several levels, the last above the table's
-abbrev pub gradeCar : ℕ → ℕ → ℕ → Car
-gradeCar number grade level = carOf (number ∷ 1 ∷ grade ∷ 1 ∷ 2 ∷ level ∷ level ∷ 0 ∷ 0 ∷ 0 ∷ 600 ∷ 9_500 ∷ 30 ∷ 10 ∷ [])
+abbrev pub gradeCar : ℕ → ℕ → ℕ → Intake
+gradeCar number grade level = dipped (carOf (number ∷ 1 ∷ grade ∷ 1 ∷ 2 ∷ level ∷ level ∷ 0 ∷ 0 ∷ 0 ∷ 600 ∷ 9_500 ∷ 30 ∷ 10 ∷ []))
 
 abbrev pub ofGrade : ℕ → ℕ → ℕ → Item
 ofGrade number grade level = car cardTables (gradeCar number grade level)
@@ -83,11 +82,11 @@ pub record GradesExample : Type 0 where
 abbrev otherTables : List Table
 otherTables = record { kind = 7; rows = record { level = 0; capacity = 0 } ∷ record { level = 9; capacity = 90 } ∷ [] } ∷ cardTables
 
-abbrev fourReadings : Car
-fourReadings = carOf (7 ∷ 1 ∷ 3 ∷ 1 ∷ 4 ∷ 1_500 ∷ 1_502 ∷ 1_500 ∷ 1_501 ∷ 0 ∷ 600 ∷ 9_500 ∷ 50 ∷ 20 ∷ [])
+abbrev fourReadings : Intake
+fourReadings = dipped (carOf (7 ∷ 1 ∷ 3 ∷ 1 ∷ 4 ∷ 1_500 ∷ 1_502 ∷ 1_500 ∷ 1_501 ∷ 0 ∷ 600 ∷ 9_500 ∷ 50 ∷ 20 ∷ []))
 
 pub record OrderExample : Type 0 where
-  pub comparable : Comparable cardTables otherTables (measured (exampleCar 1 1 600)) (measured fourReadings)
+  pub comparable : Comparable cardTables otherTables (measuredOf (exampleCar 1 1 600)) (measuredOf fourReadings)
       (aloneAnswer cardTables (exampleCar 1 1 600)) (aloneAnswer otherTables fourReadings)
-  pub lower : measured (exampleCar 1 1 600) .level ≡ 15_000
-  pub higher : measured fourReadings .level ≡ 15_003
+  pub lower : measuredOf (exampleCar 1 1 600) .level ≡ 15_000
+  pub higher : measuredOf fourReadings .level ≡ 15_003

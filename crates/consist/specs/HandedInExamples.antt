@@ -6,8 +6,8 @@ use Rattle.base.specs.Limits.{mostCars}
 use Rattle.base.specs.Answer.{Answer, figures, refusal}
 use Rattle.base.specs.Lists.{Each}
 use Rattle.table.specs.Table.{Table}
-use Rattle.car.specs.declared.Car.{Car}
 use Rattle.car.specs.Card.{cardTables}
+use Rattle.car.specs.Car.{Intake}
 use Rattle.summing.specs.declared.Totals.{Totals}
 use Rattle.summing.specs.declared.Sums.{Sums}
 use Rattle.summing.specs.Sums.{totalsFrom, noTotals}
@@ -77,7 +77,7 @@ pub record Entered : Type 0 where
   pub answer : Answer
   pub expected : ℕ
 
-abbrev on : List Table → Train → Car → ℕ → Entered
+abbrev on : List Table → Train → Intake → ℕ → Entered
 on ts t c n = record { answer = enterAnswer ts t c; expected = n }
 
 unfoldable pub enteredCars : List Entered

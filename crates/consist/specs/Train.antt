@@ -9,9 +9,8 @@ use Rattle.base.specs.Limits.{mostCars}
 use Rattle.base.specs.Answer.{Test, refuseIf, Verdict, accepts, refuses, first, Answer, answer}
 use Rattle.base.specs.Numbers.{member}
 use Rattle.table.specs.Table.{Table, tablesTests}
-use Rattle.car.specs.declared.Car.{Car}
 use Rattle.car.specs.Measured.{gross, net, mass}
-use Rattle.car.specs.Car.{numberTests, measured, carTests, figuresOf}
+use Rattle.car.specs.Car.{numberTests, Intake, intakeNumber, beforeTests, measuredOf, carTests, figuresOf}
 use Rattle.summing.specs.declared.Sums.{Sums}
 use Rattle.summing.specs.Sums.{Shown, sumsOf, noSums, mostInTrain, together, sameTotals, sameSums, sumsWith, sumsWithout}
 
@@ -100,15 +99,15 @@ full t = unsound t || leb mostCars (t .held)
 abbrev pub trainTests : Train → ℕ → List Test
 trainTests t number = refuseIf 9 (full t) ∷ (numberTests number ++ (refuseIf 11 (member number (heldBy t)) ∷ []))
 
--- 7 to 11: a car turned away by one of these leaves the train unchanged
-unfoldable pub admissionTests : List Table → Train → Car → List Test
-admissionTests ts t c = tablesTests ts ++ trainTests t (c .number)
+-- the tests before all others, and 7 to 11: a car turned away by one of these leaves the train unchanged
+unfoldable pub admissionTests : List Table → Train → Intake → List Test
+admissionTests ts t c = beforeTests c ++ (tablesTests ts ++ trainTests t (intakeNumber c))
 
 -- all that test a car entered in a train
-unfoldable pub enterTests : List Table → Train → Car → List Test
+unfoldable pub enterTests : List Table → Train → Intake → List Test
 enterTests ts t c = admissionTests ts t c ++ carTests ts c
 
-unfoldable pub enterAnswer : List Table → Train → Car → Answer
+unfoldable pub enterAnswer : List Table → Train → Intake → Answer
 enterAnswer ts t c = answer (first (enterTests ts t c)) (figuresOf ts c)
 
 -- with one car more, and these sums
@@ -131,16 +130,16 @@ abbrev pub withMasses : Train → ℕ → Shown → Train
 withMasses t number s = withHeld t (sumsWith (t .sums) s) number (s .grade) (s .gross) (s .net)
 
 -- what an accepted car adds to the sums
-abbrev pub carShown : List Table → Car → Shown
-carShown ts c = record { grade = c .grade; gross = mass gross ts (measured c); net = mass net ts (measured c) }
+abbrev pub carShown : List Table → Intake → Shown
+carShown ts c = record { grade = measuredOf c .grade; gross = mass gross ts (measuredOf c); net = mass net ts (measuredOf c) }
 
--- the train handed back, by the verdict of 7 to 11 and that of the car's own tests
-abbrev pub afterBy : Verdict → Verdict → List Table → Train → Car → Train
+-- the train handed back, by the verdict of those and that of the car's own tests
+abbrev pub afterBy : Verdict → Verdict → List Table → Train → Intake → Train
 afterBy (refuses k) own ts t c = t
-afterBy accepts (refuses k) ts t c = withNumber t (c .number)
-afterBy accepts accepts ts t c = withMasses t (c .number) (carShown ts c)
+afterBy accepts (refuses k) ts t c = withNumber t (intakeNumber c)
+afterBy accepts accepts ts t c = withMasses t (intakeNumber c) (carShown ts c)
 
-unfoldable pub enterTrain : List Table → Train → Car → Train
+unfoldable pub enterTrain : List Table → Train → Intake → Train
 enterTrain ts t c = afterBy (first (admissionTests ts t c)) (first (carTests ts c)) ts t c
 
 -- Striking a car.

@@ -1,11 +1,14 @@
 // Enters a car in a train whose cars lie in arrays that are lent.
 ghost use mathlib.Core.Path.{_≡_};
+ghost use Prim.Native.Nat.{_≤_, _<_};
+ghost use Rattle.base.specs.Limits.{mostCars};
 ghost use Rattle.base.specs.Answer.{firstNumber};
 ghost use Rattle.table.specs.Layout.{tablesOf};
 ghost use Rattle.table.specs.Inner.{Good};
-ghost use Rattle.car.specs.Car.{carTold};
+ghost use Rattle.car.specs.Car.{dipped, carTold};
+ghost use Rattle.summing.specs.Inner.{Graded};
 ghost use Rattle.consist.specs.Train.{enterAnswer, enterTrain};
-ghost use Rattle.consist.specs.Inner.{placeTests, Sixty, SoundTrain};
+ghost use Rattle.consist.specs.Inner.{placeTests, Sixty, SoundTrain, withAnswer};
 ghost use Rattle.consist.specs.Lent.{lentTrain};
 ghost use Rattle.entering.specs.Load.{loadAs};
 use base::MOST_CARS;
@@ -62,6 +65,35 @@ fn load_of(grade: u32, answer: CarAnswer) -> Load
     }
 }
 
+// Holds a car of this number in the first free place: grade and masses beside it where it was accepted, else zeros.
+fn hold(
+    held: u32,
+    numbers: &mut [u32; MOST_CARS],
+    grades: &mut [u32; MOST_CARS],
+    grosses: &mut [u32; MOST_CARS],
+    nets: &mut [u32; MOST_CARS],
+    number: u32,
+    grade: u32,
+    answer: CarAnswer,
+) -> Entered
+    requires { ⌜ Sixty (lentTrain held (now numbers) (now grades) (now grosses) (now nets)) × (held < mostCars) ⌝ }
+    ensures { λ r. ⌜
+        (r .answer ≡ answer) × (r .held ≤ mostCars)
+        × (Graded grade answer → lentTrain (r .held) (now (numbers .exit)) (now (grades .exit)) (now (grosses .exit)) (now (nets .exit)) ≡ withAnswer (lentTrain held (now (numbers .entry)) (now (grades .entry)) (now (grosses .entry)) (now (nets .entry))) number grade answer)
+        ⌝ }
+{
+    let load = load_of(grade, answer);
+    let place = held as usize;
+    numbers[place] = number;
+    grades[place] = load.grade;
+    grosses[place] = load.gross;
+    nets[place] = load.net;
+    Entered {
+        answer,
+        held: held + 1,
+    }
+}
+
 // Enters a car, for a caller with many: 7 and 8 do not turn the tables away, and the train is known to be sound. Its sums are those
 // that its cars make, and are not kept.
 pub fn enter_on(
@@ -77,8 +109,8 @@ pub fn enter_on(
 ) -> Entered
     requires { ⌜ Sixty (lentTrain held (now numbers) (now grades) (now grosses) (now nets)) × SoundTrain (lentTrain held (now numbers) (now grades) (now grosses) (now nets)) × Good d (now levels) (now capacities) ⌝ }
     ensures { λ r. ⌜
-        (carTold (r .answer) ≡ enterAnswer (tablesOf d (now (levels .entry)) (now (capacities .entry))) (lentTrain held (now (numbers .entry)) (now (grades .entry)) (now (grosses .entry)) (now (nets .entry))) car)
-        × (lentTrain (r .held) (now (numbers .exit)) (now (grades .exit)) (now (grosses .exit)) (now (nets .exit)) ≡ enterTrain (tablesOf d (now (levels .entry)) (now (capacities .entry))) (lentTrain held (now (numbers .entry)) (now (grades .entry)) (now (grosses .entry)) (now (nets .entry))) car)
+        (carTold (r .answer) ≡ enterAnswer (tablesOf d (now (levels .entry)) (now (capacities .entry))) (lentTrain held (now (numbers .entry)) (now (grades .entry)) (now (grosses .entry)) (now (nets .entry))) (dipped car))
+        × (lentTrain (r .held) (now (numbers .exit)) (now (grades .exit)) (now (grosses .exit)) (now (nets .exit)) ≡ enterTrain (tablesOf d (now (levels .entry)) (now (capacities .entry))) (lentTrain held (now (numbers .entry)) (now (grades .entry)) (now (grosses .entry)) (now (nets .entry))) (dipped car))
         ⌝ }
 {
     let number = car.number;
@@ -91,14 +123,5 @@ pub fn enter_on(
     }
     let grade = car.grade;
     let answer = working::work_on(d, levels, capacities, car);
-    let load = load_of(grade, answer);
-    let place = held as usize;
-    numbers[place] = number;
-    grades[place] = load.grade;
-    grosses[place] = load.gross;
-    nets[place] = load.net;
-    Entered {
-        answer,
-        held: held + 1,
-    }
+    hold(held, numbers, grades, grosses, nets, number, grade, answer)
 }

@@ -6,7 +6,7 @@ use mathlib.Core.List.{List}
 use Rattle.base.specs.Answer.{Answer}
 use Rattle.reading.specs.Letter.{mostFields}
 use Rattle.table.specs.Table.{Table}
-use Rattle.car.specs.declared.Car.{Car}
+use Rattle.car.specs.Car.{Intake}
 use Rattle.accuracy.specs.declared.Errors.{Errors}
 use Rattle.accuracy.specs.Permitted.{OnlyAnswer}
 use Rattle.marshalling.specs.Handed.{lengthIs, sized, Handed, figuresLeft}
@@ -25,7 +25,7 @@ permittedSized types rows levels capacities car errors figures =
 
 -- where every length is right, the only answer there is, handed over by the number r and in the lent figures; else the number of a wrong length,
 -- and the figures as they were lent
-pub record PermittedHanded (right : Bool) (ts : List Table) (c : Car) (e : Errors) (r : ℕ) (lent left : List ℕ) : Type 0 where
+pub record PermittedHanded (right : Bool) (ts : List Table) (c : Intake) (e : Errors) (r : ℕ) (lent left : List ℕ) : Type 0 where
   pub answer : Answer
   pub only : right ≡ true → OnlyAnswer ts c e answer
   pub handed : Handed figuresLeft (sized right answer) r lent left

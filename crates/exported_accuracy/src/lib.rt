@@ -1,7 +1,7 @@
 // The permitted error beside the mass for C and Rust: on numbers and slices, as in `exported_cars`.
 ghost use mathlib.Core.Path.{_≡_};
 ghost use lib.ListN.{length};
-ghost use Rattle.car.specs.Car.{carOf};
+ghost use Rattle.car.specs.Car.{carOf, dipped};
 ghost use Rattle.accuracy.specs.Permitted.{errorsOf, permittedTold};
 ghost use Rattle.marshalling.specs.Handed.{Handed, figuresLeft};
 ghost use Rattle.marshalling.specs.Layout.{tablesLent};
@@ -105,7 +105,7 @@ pub extern "C" fn rack_permitted_error(
 ) -> u32
     ensures { λ r. ⌜ PermittedHanded
         (permittedSized (now (types .entry)) (now (rows .entry)) (now (levels .entry)) (now (capacities .entry)) (now (car .entry)) (now (errors .entry)) (now (figures .entry)))
-        (tablesLent count (now (types .entry)) (now (rows .entry)) (now (levels .entry)) (now (capacities .entry))) (carOf (now (car .entry))) (errorsOf (now (errors .entry)))
+        (tablesLent count (now (types .entry)) (now (rows .entry)) (now (levels .entry)) (now (capacities .entry))) (dipped (carOf (now (car .entry)))) (errorsOf (now (errors .entry)))
         r (now (figures .entry)) (now (figures .exit)) ⌝ }
 {
     if permitted_fits(types, rows, levels, capacities, car, errors, figures) {

@@ -1,7 +1,7 @@
 // A car worked out alone, and the running train.
 ghost use mathlib.Core.Path.{_≡_};
 ghost use lib.ListN.{length};
-ghost use Rattle.car.specs.Car.{carOf, aloneAnswer, carTold};
+ghost use Rattle.car.specs.Car.{carOf, dipped, aloneAnswer, carTold};
 ghost use Rattle.consist.specs.Train.{emptyTrain, enterAnswer, enterTrain, strikeAnswer, strikeTrain};
 ghost use Rattle.base.specs.Answer.{figures};
 ghost use Rattle.marshalling.specs.Handed.{lengthIs, numberHanded, sized, Handed, figuresLeft};
@@ -66,7 +66,7 @@ pub extern "C" fn rack_work_out(
 ) -> u32
     ensures { λ r. ⌜ Handed figuresLeft (sized
         (carSized (now (types .entry)) (now (rows .entry)) (now (levels .entry)) (now (capacities .entry)) (now (car .entry)) (now (figures .entry)))
-        (aloneAnswer (tablesLent count (now (types .entry)) (now (rows .entry)) (now (levels .entry)) (now (capacities .entry))) (carOf (now (car .entry)))))
+        (aloneAnswer (tablesLent count (now (types .entry)) (now (rows .entry)) (now (levels .entry)) (now (capacities .entry))) (dipped (carOf (now (car .entry))))))
         r (now (figures .entry)) (now (figures .exit)) ⌝ }
 {
     if car_fits(types, rows, levels, capacities, car, figures) {
@@ -106,11 +106,11 @@ pub extern "C" fn rack_train_enter(
     ensures { λ r. ⌜
         Handed figuresLeft (sized
         (trainSized (now (train .entry)) (now (types .entry)) (now (rows .entry)) (now (levels .entry)) (now (capacities .entry)) (now (car .entry)) (now (figures .entry)))
-        (enterAnswer (tablesLent count (now (types .entry)) (now (rows .entry)) (now (levels .entry)) (now (capacities .entry))) (trainOf (now (train .entry))) (carOf (now (car .entry)))))
+        (enterAnswer (tablesLent count (now (types .entry)) (now (rows .entry)) (now (levels .entry)) (now (capacities .entry))) (trainOf (now (train .entry))) (dipped (carOf (now (car .entry))))))
         r (now (figures .entry)) (now (figures .exit))
         × TrainHanded
         (trainSized (now (train .entry)) (now (types .entry)) (now (rows .entry)) (now (levels .entry)) (now (capacities .entry)) (now (car .entry)) (now (figures .entry)))
-        (enterTrain (tablesLent count (now (types .entry)) (now (rows .entry)) (now (levels .entry)) (now (capacities .entry))) (trainOf (now (train .entry))) (carOf (now (car .entry))))
+        (enterTrain (tablesLent count (now (types .entry)) (now (rows .entry)) (now (levels .entry)) (now (capacities .entry))) (trainOf (now (train .entry))) (dipped (carOf (now (car .entry)))))
         (now (train .entry)) (now (train .exit))
         ⌝ }
 {

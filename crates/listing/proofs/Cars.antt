@@ -5,7 +5,7 @@ use mathlib.Core.List.{List, [], _∷_}
 use lib.ListN.{getD, drop}
 use borrow.Author.Tests.{eq-eqb, ne-eqb}
 use Rattle.table.specs.Table.{Table}
-use Rattle.car.specs.Car.{carOf}
+use Rattle.car.specs.Car.{carOf, dipped}
 use Rattle.consist.specs.Book.{car, strike}
 use Rattle.holding.specs.Layout.{carMark, lineNumbers}
 use Rattle.listing.specs.Inner.{itemAt}
@@ -16,7 +16,7 @@ car-same [] e0 e1 e2 e3 e4 e5 e6 e7 e8 e9 e10 e11 e12 e13 = simp (e0, e1, e2, e3
 car-same (n ∷ ns) e0 e1 e2 e3 e4 e5 e6 e7 e8 e9 e10 e11 e12 e13 = simp (e0, e1, e2, e3, e4, e5, e6, e7, e8, e9, e10, e11, e12, e13)
 
 module _ (ts : List Table) (fields : List ℕ) (i letter : ℕ) (e : letter ≡ getD (lineNumbers fields i) 0 0) where
-  pub enters-item : letter ≡ carMark → car ts (carOf (drop 1 (lineNumbers fields i))) ≡ itemAt ts fields i
+  pub enters-item : letter ≡ carMark → car ts (dipped (carOf (drop 1 (lineNumbers fields i)))) ≡ itemAt ts fields i
   enters-item h = sym (simp (eq-eqb (getD (lineNumbers fields i) 0 0) carMark (sym e ∙ h)))
 
   pub strikes-item : (letter ≡ carMark → ⊥) → strike (getD (lineNumbers fields i) 1 0) ≡ itemAt ts fields i

@@ -8,10 +8,9 @@ use Rattle.base.proofs.Choice.{never}
 use Rattle.base.proofs.Answer.{accepted-parts}
 use Rattle.table.specs.Table.{Table}
 use Rattle.heating.specs.Exact.{Power}
-use Rattle.car.specs.declared.Car.{Car}
 use Rattle.car.specs.declared.Measured.{Measured}
 use Rattle.car.specs.Measured.{Mass, gross, net, sixFigures}
-use Rattle.car.specs.Car.{measured, figuresOf, aloneTests, aloneAnswer}
+use Rattle.car.specs.Car.{Intake, measuredOf, figuresOf, aloneTests, aloneAnswer}
 use Rattle.car.specs.Exact.{massˣ, distance}
 use Rattle.consist.specs.Demand3.{massIn, Close, Comparable, Figurewise, InOrder, alone}
 use Rattle.consist.proofs.Taken.{close}
@@ -32,22 +31,22 @@ module _ (ts : List Table) (m : Measured) (k : ℕ) where
   }
 
 -- two numbers more behind the six figures
-abbrev six : List Table → Car → Answer
+abbrev six : List Table → Intake → Answer
 six ts c = figures (figuresOf ts c)
 
-abbrev more : List Table → Car → List ℕ → Answer
+abbrev more : List Table → Intake → List ℕ → Answer
 more ts c tail = figures (figuresOf ts c ++ tail)
 
-module _ (ts : List Table) (c : Car) (tail : List ℕ) where
-  close-more : Close ts (measured c) (six ts c) → Close ts (measured c) (more ts c tail)
+module _ (ts : List Table) (c : Intake) (tail : List ℕ) where
+  close-more : Close ts (measuredOf c) (six ts c) → Close ts (measuredOf c) (more ts c tail)
   unfolding sixFigures
   close-more h = record { near = λ e. near; uncut = λ e. h .uncut refl }
     where
-      near : (k : Mass) (p : Power) → Within 100 (distance k) (massIn k (more ts c tail)) (massˣ k p ts (measured c))
+      near : (k : Mass) (p : Power) → Within 100 (distance k) (massIn k (more ts c tail)) (massˣ k p ts (measuredOf c))
       near gross p = h .near refl gross p
       near net p = h .near refl net p
 
-  in-order-more : InOrder ts (measured c) (six ts c) → InOrder ts (measured c) (more ts c tail)
+  in-order-more : InOrder ts (measuredOf c) (six ts c) → InOrder ts (measuredOf c) (more ts c tail)
   unfolding sixFigures
   in-order-more h = record {
     higher = λ us n b w x l. first-of _ b (h .higher us n b w (comparable x) l);
@@ -55,7 +54,7 @@ module _ (ts : List Table) (c : Car) (tail : List ℕ) where
     level-with = λ us n b w x l. first-of _ b (h .level-with us n b w (comparable x) l);
   }
     where
-      comparable : {us : List Table} {n : Measured} {b : Answer} → Comparable ts us (measured c) n (more ts c tail) b → Comparable ts us (measured c) n (six ts c) b
+      comparable : {us : List Table} {n : Measured} {b : Answer} → Comparable ts us (measuredOf c) n (more ts c tail) b → Comparable ts us (measuredOf c) n (six ts c) b
       comparable x = record { first = refl; second = x .second; table = x .table; alike = x .alike }
 
       first-of : (R : ℕ → ℕ → Type 0) (b : Answer) → Figurewise R (six ts c) b → Figurewise R (more ts c tail) b
@@ -67,11 +66,11 @@ module _ (ts : List Table) (c : Car) (tail : List ℕ) where
       second-of R (refusal k) p = p
 
 -- so both hold of the answer on the permitted error
-module _ (ts : List Table) (c : Car) (e : Errors) {a : Answer} (p : PermittedAnswer ts c e a) where
+module _ (ts : List Table) (c : Intake) (e : Errors) {a : Answer} (p : PermittedAnswer ts c e a) where
   alone-six : first (permittedTests ts c e) ≡ accepts → aloneAnswer ts c ≡ six ts c
   unfolding aloneAnswer permittedTests
   alone-six v =
-      ap (λ (w : Verdict). answer w (figuresOf ts c)) (accepted-parts (errorTests e ++ termTests ts (measured c) e) (aloneTests ts c) v .0)
+      ap (λ (w : Verdict). answer w (figuresOf ts c)) (accepted-parts (errorTests e ++ termTests ts (measuredOf c) e) (aloneTests ts c) v .0)
 
   held : (P : Answer → Type 0) → ((k : ℕ) → P (refusal k)) → ((tail : List ℕ) → P (six ts c) → P (more ts c tail)) → P (aloneAnswer ts c) → P a
   held P refused longer h = subst P (sym (p .answered)) (go (first (permittedTests ts c e)) refl)
@@ -80,10 +79,10 @@ module _ (ts : List Table) (c : Car) (e : Errors) {a : Answer} (p : PermittedAns
       go accepts v = longer _ (subst P (alone-six v) h)
       go (refuses k) v = refused k
 
-  pub permitted-close : Close ts (measured c) a
+  pub permitted-close : Close ts (measuredOf c) a
   permitted-close =
-      held (λ (x : Answer). Close ts (measured c) x) (refused-close ts (measured c)) (close-more ts c) (close ts (measured c) (aloneAnswer ts c) (alone c))
+      held (λ (x : Answer). Close ts (measuredOf c) x) (refused-close ts (measuredOf c)) (close-more ts c) (close ts (measuredOf c) (aloneAnswer ts c) (alone c))
 
-  pub permitted-in-order : InOrder ts (measured c) a
+  pub permitted-in-order : InOrder ts (measuredOf c) a
   permitted-in-order =
-      held (λ (x : Answer). InOrder ts (measured c) x) (refused-in-order ts (measured c)) (in-order-more ts c) (in-order ts (measured c) (aloneAnswer ts c) (alone c))
+      held (λ (x : Answer). InOrder ts (measuredOf c) x) (refused-in-order ts (measuredOf c)) (in-order-more ts c) (in-order ts (measuredOf c) (aloneAnswer ts c) (alone c))

@@ -1,10 +1,10 @@
 // The permitted error beside the mass of a car by itself: its refusals and its six figures, 24 and 25, then the limit.
 ghost use mathlib.Core.Path.{_≡_};
 ghost use Prim.Native.Nat.{_≤_};
-ghost use Rattle.base.specs.Answer.{accepts, first, figures};
 ghost use Rattle.table.specs.Layout.{tablesOf};
 ghost use Rattle.car.specs.Measured.{v0};
-ghost use Rattle.car.specs.Car.{measured, figuresOf, aloneTests, carTold};
+ghost use Rattle.car.specs.Car.{measured, Intake, dipped};
+ghost use Rattle.car.specs.Inner.{Passed};
 ghost use Rattle.consist.specs.Demand3.{Close, InOrder};
 ghost use Rattle.accuracy.specs.Permitted.{
   mostLevelError,
@@ -15,54 +15,52 @@ ghost use Rattle.accuracy.specs.Permitted.{
 };
 ghost use Rattle.accuracy.specs.Shown.{ShownRight};
 ghost use Rattle.accuracy.specs.Card.{PermittedRight};
+ghost use Rattle.permitting.specs.Inner.{SixShown, AcceptedAs};
 use accuracy::Errors;
 use accuracy::Permitted;
 use accuracy::PermittedError;
 use car::Car;
 use car::CarAnswer;
 use car::Figures;
+use car::Measured;
 use gauging::Around;
 use table::Directory;
 use table::PLACES;
 use terms::MOST_LEVEL_TERM;
 
-// The level term of a car that is accepted, in 0.0001 %.
+// The level term of an accepted car of which m is measured, from its V0 (0.01 dm³), in 0.0001 %.
 fn level_term_on(
     d: Directory,
     levels: &[u32; PLACES],
     capacities: &[u32; PLACES],
-    car: Car,
-    six: Figures,
+    m: Measured,
+    volume: u32,
     errors: Errors,
 ) -> u64
     requires { ⌜
-        (first (aloneTests (tablesOf d (now levels) (now capacities)) car) ≡ accepts)
+        Passed (tablesOf d (now levels) (now capacities)) m
         × (errors .level ≤ mostLevelError)
-        × (six .level ≡ measured car .level)
-        × (six .v0 ≡ v0 (tablesOf d (now levels) (now capacities)) (measured car))
+        × (volume ≡ v0 (tablesOf d (now levels) (now capacities)) m)
         ⌝ }
-    ensures { λ r. ⌜ r ≡ levelTermOf (tablesOf d (now (levels .entry)) (now (capacities .entry))) (measured car) errors ⌝ }
+    ensures { λ r. ⌜ r ≡ levelTermOf (tablesOf d (now (levels .entry)) (now (capacities .entry))) m errors ⌝ }
 {
-    match capacity::rows_around(d, levels, capacities, car.kind, six.level as u64) {
-        Around::Rows(rows) => terms::level_term(errors.level, rows, six.v0),
+    match capacity::rows_around(d, levels, capacities, m.kind, m.level) {
+        Around::Rows(rows) => terms::level_term(errors.level, rows, volume),
         Around::Refused(_) => 0,
     }
 }
 
-// The limit beside the figures of a car that is accepted, or the first of 24 and 25.
+// The limit beside the six figures of an accepted car of which m is measured, or the first of 24 and 25.
 fn limit_beside(
     d: Directory,
     levels: &[u32; PLACES],
     capacities: &[u32; PLACES],
-    car: Car,
+    m: Measured,
     six: Figures,
     errors: Errors,
 ) -> PermittedError
-    requires { ⌜
-        (first (aloneTests (tablesOf d (now levels) (now capacities)) car) ≡ accepts)
-        × (carTold (CarAnswer.Accepted six) ≡ figures (figuresOf (tablesOf d (now levels) (now capacities)) car))
-        ⌝ }
-    ensures { λ r. ⌜ PermittedAnswer (tablesOf d (now (levels .entry)) (now (capacities .entry))) car errors (permittedTold r) ⌝ }
+    requires { ⌜ Passed (tablesOf d (now levels) (now capacities)) m × SixShown (tablesOf d (now levels) (now capacities)) m six ⌝ }
+    ensures { λ r. ⌜ ((h : Intake) → AcceptedAs (tablesOf d (now (levels .entry)) (now (capacities .entry))) h m six → PermittedAnswer (tablesOf d (now (levels .entry)) (now (capacities .entry))) h errors (permittedTold r)) ⌝ }
 {
     let by_errors = terms::errors_refusal(errors);
     if by_errors != 0 {
@@ -71,12 +69,12 @@ fn limit_beside(
     if six.v0 == 0 {
         return PermittedError::Refused(25);
     }
-    let level = level_term_on(d, levels, capacities, car, six, errors);
+    let level = level_term_on(d, levels, capacities, m, six.v0, errors);
     if MOST_LEVEL_TERM < level {
         return PermittedError::Refused(25);
     }
-    let b = thermal::expansion(car.density);
-    let limit = terms::limit_of(terms::sum_of_squares(errors, level, b, car.temperature));
+    let b = thermal::expansion(m.density);
+    let limit = terms::limit_of(terms::sum_of_squares(errors, level, b, m.temperature));
     PermittedError::Limit(Permitted {
         figures: six,
         limit,
@@ -94,15 +92,19 @@ pub fn permitted_error(
     errors: Errors,
 ) -> PermittedError
     ensures { λ r. ⌜
-        OnlyAnswer (tablesOf d (now (levels .entry)) (now (capacities .entry))) car errors (permittedTold r)
-        × ShownRight (tablesOf d (now (levels .entry)) (now (capacities .entry))) car errors (permittedTold r)
+        OnlyAnswer (tablesOf d (now (levels .entry)) (now (capacities .entry))) (dipped car) errors (permittedTold r)
+        × ShownRight (tablesOf d (now (levels .entry)) (now (capacities .entry))) (dipped car) errors (permittedTold r)
         × Close (tablesOf d (now (levels .entry)) (now (capacities .entry))) (measured car) (permittedTold r)
         × InOrder (tablesOf d (now (levels .entry)) (now (capacities .entry))) (measured car) (permittedTold r)
         × PermittedRight
         ⌝ }
 {
     match train::work_out(d, levels, capacities, car) {
-        CarAnswer::Accepted(six) => limit_beside(d, levels, capacities, car, six, errors),
+        CarAnswer::Accepted(six) => {
+            let level = six.level as u64;
+            let m = working::measured_at(car, level);
+            limit_beside(d, levels, capacities, m, six, errors)
+        }
         CarAnswer::Refused(number) => PermittedError::Refused(number),
     }
 }

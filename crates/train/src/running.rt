@@ -4,7 +4,7 @@ ghost use mathlib.Core.List.{List};
 ghost use Prim.Native.Nat.{_≤_};
 ghost use Rattle.base.specs.Limits.{mostCars};
 ghost use Rattle.table.specs.Layout.{tablesOf};
-ghost use Rattle.car.specs.Car.{measured, carTold};
+ghost use Rattle.car.specs.Car.{measured, dipped, carTold};
 ghost use Rattle.consist.specs.Train.{emptyTrain, enterAnswer, enterTrain, strikeAnswer, strikeTrain};
 ghost use Rattle.consist.specs.Book.{Item};
 ghost use Rattle.consist.specs.Book.{car as carItem};
@@ -85,11 +85,11 @@ impl Train {
         car: Car,
     ) -> Step
         ensures { λ r. ⌜
-            (carTold (r .answer) ≡ enterAnswer (tablesOf d (now (levels .entry)) (now (capacities .entry))) (trainTold self) car)
-            × (trainTold (r .train) ≡ enterTrain (tablesOf d (now (levels .entry)) (now (capacities .entry))) (trainTold self) car)
+            (carTold (r .answer) ≡ enterAnswer (tablesOf d (now (levels .entry)) (now (capacities .entry))) (trainTold self) (dipped car))
+            × (trainTold (r .train) ≡ enterTrain (tablesOf d (now (levels .entry)) (now (capacities .entry))) (trainTold self) (dipped car))
             × Close (tablesOf d (now (levels .entry)) (now (capacities .entry))) (measured car) (carTold (r .answer))
             × InOrder (tablesOf d (now (levels .entry)) (now (capacities .entry))) (measured car) (carTold (r .answer))
-            × Continues (trainTold self) (carItem (tablesOf d (now (levels .entry)) (now (capacities .entry))) car) (carTold (r .answer)) (trainTold (r .train))
+            × Continues (trainTold self) (carItem (tablesOf d (now (levels .entry)) (now (capacities .entry))) (dipped car)) (carTold (r .answer)) (trainTold (r .train))
             × EnterOrder
             ⌝ }
     {

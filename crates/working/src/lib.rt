@@ -10,7 +10,7 @@ ghost use Rattle.table.specs.Inner.{Good};
 ghost use Rattle.grading.specs.Grades.{gradeBad, oilTests};
 ghost use Rattle.kilograms.specs.Distance.{greatestVolume};
 ghost use Rattle.car.specs.Measured.{earlyTests, lateTests, figuresFrom, sixFigures};
-ghost use Rattle.car.specs.Car.{numberTests, measured, ownAnswer, carTold};
+ghost use Rattle.car.specs.Car.{numberTests, measured, dipped, ownAnswer, carTold};
 use base::LARGEST;
 use car::Car;
 use car::CarAnswer;
@@ -33,13 +33,11 @@ pub fn number_refusal(number: u32) -> u32
     0
 }
 
-// What is measured of a car with readings.
-fn measured_of(car: Car) -> Measured
-    ensures { λ r. ⌜ r ≡ measured car ⌝ }
+// What is measured of a car with readings whose mean level, in tenths of a mm, is known.
+pub fn measured_at(car: Car, level: u64) -> Measured
+    ensures { λ r. ⌜ (level ≡ measured car .level → r ≡ measured car) ⌝ }
 {
-    let readings = car.readings;
     let density = car.density;
-    let level = level::mean_of(readings);
     Measured {
         kind: car.kind,
         grade: car.grade,
@@ -51,6 +49,14 @@ fn measured_of(car: Car) -> Measured
         water: car.water,
         impurities: car.impurities,
     }
+}
+
+// What is measured of a car with readings.
+fn measured_of(car: Car) -> Measured
+    ensures { λ r. ⌜ r ≡ measured car ⌝ }
+{
+    let readings = car.readings;
+    measured_at(car, level::mean_of(readings))
 }
 
 // 12 or 13, on tables that are not refused; 0 where neither applies.
@@ -109,7 +115,7 @@ pub fn work_on(
     car: Car,
 ) -> CarAnswer
     requires { ⌜ Good d (now levels) (now capacities) ⌝ }
-    ensures { λ r. ⌜ carTold r ≡ ownAnswer (tablesOf d (now (levels .entry)) (now (capacities .entry))) car ⌝ }
+    ensures { λ r. ⌜ carTold r ≡ ownAnswer (tablesOf d (now (levels .entry)) (now (capacities .entry))) (dipped car) ⌝ }
 {
     let m = measured_of(car);
     let early = early_refusal(d, m);

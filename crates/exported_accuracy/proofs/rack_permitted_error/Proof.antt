@@ -11,6 +11,7 @@ use Rattle.base.proofs.Choice.{both-hold, never}
 use Rattle.reading.specs.Letter.{mostFields}
 use Rattle.table.specs.Table.{Table}
 use Rattle.car.specs.declared.Car.{Car}
+use Rattle.car.specs.Car.{dipped}
 use Rattle.accuracy.specs.declared.Errors.{Errors}
 use Rattle.accuracy.specs.Permitted.{permittedTold, OnlyAnswer}
 use Rattle.marshalling.specs.Handed.{figuresLeft}
@@ -35,9 +36,9 @@ lengths-right types rows levels capacities car errors figures e =
     (eqb-true _ _ (first .0), eqb-true _ _ (first .1), eqb-true _ _ (third .1), tables-right types rows levels capacities (last .1))
 
 -- the answer for equal tables, car and errors
-lent : {ts us : List Table} {c d : Car} {e f : Errors} {a : Answer} → ts ≡ us → c ≡ d → e ≡ f → OnlyAnswer ts c e a → OnlyAnswer us d f a
+lent : {ts us : List Table} {c d : Car} {e f : Errors} {a : Answer} → ts ≡ us → c ≡ d → e ≡ f → OnlyAnswer ts (dipped c) e a → OnlyAnswer us (dipped d) f a
 lent {us} {c} {d} {e} {a} p q r h =
-    subst (λ (x : Errors). OnlyAnswer us d x a) r (subst (λ (x : Car). OnlyAnswer us x e a) q (subst (λ (x : List Table). OnlyAnswer x c e a) p h))
+    subst (λ (x : Errors). OnlyAnswer us (dipped d) x a) r (subst (λ (x : Car). OnlyAnswer us (dipped x) e a) q (subst (λ (x : List Table). OnlyAnswer x (dipped c) e a) p h))
 
 abbrev start : tie.Then1 → tie.Start
 start c = c .before .before .before .before .before .before .before .before .before .before

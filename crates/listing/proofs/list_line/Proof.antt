@@ -6,6 +6,7 @@ use denote.Ref.{now}
 use Rattle.table.specs.Table.{Table}
 use Rattle.table.specs.Layout.{tablesOf}
 use Rattle.car.specs.declared.Car.{Car}
+use Rattle.car.specs.Car.{dipped}
 use Rattle.consist.specs.Train.{Train, enterAnswer, enterTrain, strikeAnswer, strikeTrain}
 use Rattle.consist.specs.Book.{Item}
 use Rattle.consist.specs.Demand3.{answerTo, trainWith}
@@ -42,9 +43,9 @@ returns c =
     let item = enters-item (all s) (now (s .args .fields)) (s .args .i) (n .number-at .result) (n .number-at .ensures) (k .before .if1 .taken) in (
       c .answer-line .ensures
           ∙ ap (answerLine (k .car-at .result .number)) (e .enter-on .ensures .0)
-          ∙ ap (λ (x : Car). answerLine (x .number) (enterAnswer (all s) (train s) x)) (k .car-at .ensures)
+          ∙ ap (λ (x : Car). answerLine (x .number) (enterAnswer (all s) (train s) (dipped x))) (k .car-at .ensures)
           ∙ ap (λ (x : Item). itemLine x (answerTo (train s) x)) item,
-      e .enter-on .ensures .1 ∙ ap (enterTrain (all s) (train s)) (k .car-at .ensures) ∙ ap (trainWith (train s)) item,
+      e .enter-on .ensures .1 ∙ ap (λ (x : Car). enterTrain (all s) (train s) (dipped x)) (k .car-at .ensures) ∙ ap (trainWith (train s)) item,
     )
 
 number-at-requires-2 : tie.Need-number-at-requires-2

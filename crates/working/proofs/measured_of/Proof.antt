@@ -6,8 +6,11 @@ use Rattle.working.proofs.measured_of.Tie as tie
 mean-of-requires : tie.Need-mean-of-requires
 mean-of-requires c κs = search needs
 
+measured-at-requires : tie.Need-measured-at-requires
+measured-at-requires c κs = search needs
+
 returns : tie.Need-returns
-returns c = rw (c .mean-of .ensures)
+returns c = c .measured-at .ensures (c .before .mean-of .ensures)
 
 pub measured-of-spec : {M : Type 1} → statement M
-measured-of-spec = tie.close (tie.spec mean-of-requires returns)
+measured-of-spec = tie.close (tie.spec mean-of-requires measured-at-requires returns)

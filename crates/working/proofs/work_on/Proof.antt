@@ -7,7 +7,7 @@ use Rattle.base.specs.Answer.{firstNumber}
 use Rattle.table.specs.Table.{Table}
 use Rattle.table.specs.Layout.{tablesOf}
 use Rattle.car.specs.Measured.{earlyTests}
-use Rattle.car.specs.Car.{measured}
+use Rattle.car.specs.Car.{measured, dipped}
 use Rattle.car.proofs.Answers.{own-early, early-passed, own-readings, own-late}
 use Rattle.working.proofs.work_on.Statement.{statement}
 use Rattle.working.proofs.work_on.Tie as tie
@@ -30,7 +30,7 @@ early-refusal-requires c κs = search needs
 returns : tie.Need-returns
 returns c =
     let s = c .before .before .before in
-    own-early (all s) (s .args .car) (early (c .before)) (c .if1 .taken)
+    own-early (all s) (dipped (s .args .car)) (early (c .before)) (c .if1 .taken)
 
 readings-refusal-requires : tie.Need-readings-refusal-requires
 readings-refusal-requires c κs = search needs
@@ -40,14 +40,14 @@ returns-2 c =
     let r = c .before in
     let e = r .before .before .before in
     let s = e .before .before in
-    own-readings (all s) (s .args .car) (early e) (r .before .before .if1 .left) (r .readings-refusal .ensures) (c .if2 .taken)
+    own-readings (all s) (dipped (s .args .car)) (early e) (r .before .before .if1 .left) (r .readings-refusal .ensures) (c .if2 .taken)
 
 work-measured-requires : tie.Need-work-measured-requires
 work-measured-requires c κs =
     let r = c .before in
     let e = r .before .before .before in
     let s = e .before .before in
-    (s .pre, rw (e .before .measured-of .ensures) (early-passed (all s) (s .args .car) (early e) (r .before .before .if1 .left)))
+    (s .pre, rw (e .before .measured-of .ensures) (early-passed (all s) (dipped (s .args .car)) (early e) (r .before .before .if1 .left)))
 
 returns-3 : tie.Need-returns-3
 returns-3 c =
@@ -55,7 +55,7 @@ returns-3 c =
     let e = r .before .before .before in
     let s = e .before .before in
     rw (e .before .measured-of .ensures) at (c .work-measured .ensures)
-    ∙ own-late (all s) (s .args .car) (early e) (r .before .before .if1 .left) (r .readings-refusal .ensures) (c .before .if2 .left)
+    ∙ own-late (all s) (dipped (s .args .car)) (early e) (r .before .before .if1 .left) (r .readings-refusal .ensures) (c .before .if2 .left)
 
 pub work-on-spec : {M : Type 1} → statement M
 work-on-spec =

@@ -9,6 +9,7 @@ use borrow.Author.Needs.{needs}
 use denote.Ref.{now}
 use Rattle.table.specs.Table.{Table}
 use Rattle.car.specs.declared.Car.{Car}
+use Rattle.car.specs.Car.{Intake, dipped}
 use Rattle.consist.specs.Train.{Train, enterAnswer, enterTrain}
 use Rattle.marshalling.specs.Handed.{figuresLeft}
 use Rattle.trainslice.specs.Layout.{half, trainNumbers}
@@ -32,7 +33,7 @@ right : (c : tie.Then2)
     (now (start c .args .figures))
 right c = car-right _ _ _ _ _ _ (sym (c .before .car-fits .ensures) ∙ c .if2 .taken)
 
-same : {A : Type 0} (on : List Table → Train → Car → A) {ts ts' : List Table} {t t' : Train} {car car' : Car} → ts ≡ ts' → t ≡ t' → car ≡ car' → on ts t car ≡ on ts' t' car'
+same : {A : Type 0} (on : List Table → Train → Intake → A) {ts ts' : List Table} {t t' : Train} {car car' : Car} → ts ≡ ts' → t ≡ t' → car ≡ car' → on ts t (dipped car) ≡ on ts' t' (dipped car')
 same on ts t car = cc
 
 returns : tie.Need-returns

@@ -5,7 +5,8 @@ use borrow.Author.Needs.{needs}
 use denote.Ref.{now}
 use Rattle.table.specs.Table.{Table}
 use Rattle.table.specs.Layout.{tablesOf}
-use Rattle.car.specs.Car.{carOf, aloneAnswer}
+use Rattle.car.specs.declared.Car.{Car}
+use Rattle.car.specs.Car.{carOf, dipped, aloneAnswer}
 use Rattle.marshalling.specs.Handed.{figuresLeft}
 use Rattle.marshalling.proofs.Handed.{handed, handed-as, right-sized, wrong-sized}
 use Rattle.marshalling.proofs.Lengths.{tables-copied}
@@ -58,8 +59,8 @@ returns c =
     let k = q .before .before .before in
     handed-as (h .hand-over .ensures)
     (w .work-out .ensures .0
-    ∙ ap (aloneAnswer (tablesOf (q .before .before .directory-of .result) (q .before .all-places .result) (q .all-places2 .result))) (w .before .car-of .ensures)
-    ∙ ap (λ (ts : List Table). aloneAnswer ts (carOf (now (start k .args .car))))
+    ∙ ap (λ (x : Car). aloneAnswer (tablesOf (q .before .before .directory-of .result) (q .before .all-places .result) (q .all-places2 .result)) (dipped x)) (w .before .car-of .ensures)
+    ∙ ap (λ (ts : List Table). aloneAnswer ts (dipped (carOf (now (start k .args .car)))))
     (tables-copied (q .before .before .directory-of .ensures) (q .before .all-places .ensures) (q .all-places2 .ensures))
     ∙ right-sized _ (sym (k .before .car-fits .ensures) ∙ k .if1 .taken))
 
