@@ -31,7 +31,7 @@ abbrev bentTables : List Table
 bentTables = table ((0, 0) ∷ (1_000, 1_000) ∷ (2_000, 31_000) ∷ [])
 
 -- one that holds 1 dm³ in all, so that V0 is 0 up to 17.9 mm
-abbrev flatTables : List Table
+abbrev pub flatTables : List Table
 flatTables = table ((0, 0) ∷ (3_600, 1) ∷ [])
 
 -- two on which cars weigh about 100 t
@@ -40,16 +40,16 @@ wideTables capacity = table ((0, 0) ∷ (3_000, capacity) ∷ [])
 
 -- Errors of an ordinary rack, and one error by itself.
 
-abbrev ordinary : List ℕ
+abbrev pub ordinary : List ℕ
 ordinary = 5_000 ∷ 1_600 ∷ 500 ∷ 5 ∷ 5 ∷ 30 ∷ []
 
-abbrev none : List ℕ
+abbrev pub none : List ℕ
 none = 0 ∷ 0 ∷ 0 ∷ 0 ∷ 0 ∷ 0 ∷ []
 
-abbrev ofCapacity : ℕ → List ℕ
+abbrev pub ofCapacity : ℕ → List ℕ
 ofCapacity e = e ∷ 0 ∷ 0 ∷ 0 ∷ 0 ∷ 0 ∷ []
 
-abbrev ofLevel : ℕ → List ℕ
+abbrev pub ofLevel : ℕ → List ℕ
 ofLevel e = 0 ∷ 0 ∷ 0 ∷ 0 ∷ 0 ∷ e ∷ []
 
 -- the first car of document 01's sheet at a level in mm, over water

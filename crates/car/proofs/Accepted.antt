@@ -5,12 +5,14 @@ use mathlib.Core.Bool.{false}
 use mathlib.Core.List.{List, [], _∷_, _++_}
 use native.Mathlib.Nat.{le-of-lt}
 use native.Mathlib.Omega.{arith}
+use lib.Ieee.{ofBits}
 use lib.Dec.{eqb}
 use borrow.Author.Tests.{ltb-false, leb-false, eqb-false}
 use Rattle.base.specs.Limits.{inTenths}
 use Rattle.base.specs.Answer.{Test, accepts, refuses, first}
 use Rattle.base.proofs.Choice.{neither}
 use Rattle.base.proofs.Answer.{not-applied, accepted-parts}
+use Rattle.probe_spec.specs.Tenths.{noNumber, setTests}
 use Rattle.table.specs.Table.{Table, tablesTests, tablesVerdict, unknown, lastLevel}
 use Rattle.table.proofs.Rising.{Rising, tables-rising}
 use Rattle.gauging.specs.Capacity.{above, levelTests}
@@ -24,9 +26,10 @@ use Rattle.kilograms.proofs.Distance.{shown-near}
 use Rattle.kilograms.proofs.Uncut.{nothing-cut}
 use Rattle.car.specs.declared.Measured.{Measured}
 use Rattle.car.specs.Measured.{rows, earlyTests, lateTests, measuredTests, v0}
-use Rattle.car.specs.Car.{carOf, numberTests, Intake, dipped, intakeNumber, beforeTests, dipTests, measuredOf, carTests, aloneTests}
+use Rattle.car.specs.Car.{carOf, probeCarOf, numberTests, Intake, dipped, probed, intakeNumber, beforeTests, dipTests, measuredOf, carTests, aloneTests}
 use Rattle.car.specs.Inner.{Passed}
-use Rattle.car.specs.Card.{cardTables}
+use Rattle.car.specs.Card.{cardTables, badType}
+use Rattle.car.specs.ProbedCard.{firstProbe, atLevel}
 use Rattle.car.specs.Exact.{volumeˣ, Uncut}
 
 -- a figure beside the law, which a list without the readings' tests, or with these behind 16, refuses: three readings, all 0
@@ -38,6 +41,15 @@ fourteen-first = refl
 twenty-three-first : first (carTests cardTables (dipped (carOf (1 ∷ 1 ∷ 3 ∷ 1 ∷ 4 ∷ 3_001 ∷ 3_011 ∷ 3_021 ∷ 3_031 ∷ 0 ∷ 600 ∷ 9_500 ∷ 50 ∷ 20 ∷ [])))) ≡ refuses 23
 unfolding carTests measuredTests
 twenty-three-first = refl
+
+-- and lists of a car alone without 10, and with 31 behind 7: the number 0, and a level of -1 mm on a table of type 0
+ten-alone : first (aloneTests cardTables (dipped (carOf (0 ∷ 1 ∷ 3 ∷ 1 ∷ 2 ∷ 1_500 ∷ 1_500 ∷ 0 ∷ 0 ∷ 0 ∷ 600 ∷ 9_500 ∷ 50 ∷ 20 ∷ [])))) ≡ refuses 10
+unfolding aloneTests
+ten-alone = refl
+
+thirty-one-first : first (aloneTests (badType ∷ []) (probed (probeCarOf firstProbe (atLevel 0xbf800000)))) ≡ refuses 31
+unfolding aloneTests ofBits noNumber setTests
+thirty-one-first = refl
 
 pub passed-car : {ts : List Table} (h : Intake) → tablesVerdict ts ≡ accepts → first (carTests ts h) ≡ accepts → Passed ts (measuredOf h)
 unfolding carTests measuredTests

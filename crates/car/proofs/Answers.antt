@@ -5,6 +5,7 @@ use mathlib.Core.Bool.{true}
 use mathlib.Core.List.{List, [], _∷_, _++_, append-assoc}
 use Rattle.base.specs.Answer.{Test, Verdict, accepts, refuses, first, firstNumber, refusal, answer}
 use Rattle.base.proofs.Answer.{numbered, numbered-append, passed, answer-figures, refuses-append, refused-append, accepted-append, accepted-parts}
+use Rattle.probe_spec.specs.Tenths.{setTests}
 use Rattle.table.specs.Table.{Table, tablesTests, tablesVerdict}
 use Rattle.table.proofs.Table.{tables-numbered}
 use Rattle.gauging.specs.Capacity.{kindTests, levelTests, volumeTests, volumeOn, volumeTold}
@@ -15,7 +16,7 @@ use Rattle.grading.specs.Grades.{codeTests, oilTests}
 use Rattle.car.specs.declared.Measured.{Measured}
 use Rattle.car.specs.Measured.{rows, earlyTests, lateTests, measuredTests, v0, figuresFrom, sixFigures}
 use Rattle.car.specs.Card.{cardTables}
-use Rattle.car.specs.Car.{carOf, numberTests, Intake, dipped, intakeNumber, beforeTests, dipTests, measuredOf, carTests, figuresOf, ownAnswer, aloneTests, aloneAnswer}
+use Rattle.car.specs.Car.{carOf, numberTests, Intake, dipped, probed, intakeNumber, beforeTests, dipTests, measuredOf, carTests, figuresOf, ownAnswer, aloneTests, aloneAnswer}
 
 -- the answer by an equal verdict
 by-verdict : (values : List ℕ) {v w : Verdict} → w ≡ v → answer v values ≡ answer w values
@@ -23,14 +24,18 @@ by-verdict values e = sym (ap (λ (u : Verdict). answer u values) e)
 
 -- the tests have numbers
 pub before-numbered : (h : Intake) → numbered (beforeTests h) ≡ true
+unfolding setTests
 before-numbered (dipped c) = refl
+before-numbered (probed c) = refl
 
 dip-numbered : (h : Intake) → numbered (dipTests h) ≡ true
 dip-numbered (dipped c) = refl
+dip-numbered (probed c) = refl
 
 pub own-numbered : (ts : List Table) (h : Intake) → numbered (carTests ts h) ≡ true
 unfolding carTests measuredTests
 own-numbered ts (dipped c) = refl
+own-numbered ts (probed c) = refl
 
 -- 12 and 13, the readings' tests, then 16 to 21.
 module _ (ts : List Table) (c : Intake) where
@@ -84,12 +89,12 @@ module _ (ts : List Table) (m : Measured) (number : ℕ) (early : first (earlyTe
         let shown : v ≡ v0 ts m = let q = p .1 in cc in
         rw shown (by-verdict (figuresFrom number m (v0 ts m)) (accepted-append ofOil atLevel (sym from-volume ∙ p .0)))
 
--- a figure beside the laws, which a list without 10 refuses: a car alone with the number 0
-ten-alone : first (aloneTests cardTables (dipped (carOf (0 ∷ 1 ∷ 3 ∷ 1 ∷ 2 ∷ 1_500 ∷ 1_500 ∷ 0 ∷ 0 ∷ 0 ∷ 600 ∷ 9_500 ∷ 50 ∷ 20 ∷ [])))) ≡ refuses 10
-unfolding aloneTests
-ten-alone = refl
-
 -- A car alone: the tests before all others, 7, 8 and 10, then its own tests.
+
+pub alone-before : (ts : List Table) (h : Intake) {k : ℕ} → first (beforeTests h) ≡ refuses k → refusal k ≡ aloneAnswer ts h
+unfolding aloneAnswer aloneTests
+alone-before ts h e = by-verdict (figuresOf ts h) (refuses-append (tablesTests ts ++ (numberTests (intakeNumber h) ++ carTests ts h)) (beforeTests h) e)
+
 abbrev admission : List Table → ℕ → List Test
 admission ts number = tablesTests ts ++ numberTests number
 

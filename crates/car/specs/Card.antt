@@ -47,7 +47,7 @@ gives a b = record { reckoned = a; card = b }
 abbrev shows : List ℕ → List ℕ → Figure
 shows ns values = gives (aloneAnswer cardTables (dipped (carOf ns))) (figures values)
 
-abbrev withoutFigures : Answer → Answer
+abbrev pub withoutFigures : Answer → Answer
 withoutFigures (figures values) = figures []
 withoutFigures (refusal n) = refusal n
 

@@ -4,4 +4,5 @@ pub mod Car
 pub mod Card
 pub mod OperationsCard
 pub mod ExactCard
+pub mod ProbedCard
 pub mod Inner

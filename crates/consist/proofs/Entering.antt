@@ -2,15 +2,16 @@
 use Prim.Native.Nat.{ℕ, _<_}
 use mathlib.Core.Path.{_≡_, refl, ap, ap₂, sym, _∙_}
 use mathlib.Core.Bool.{true, false, not, _||_}
-use mathlib.Core.List.{List, _++_}
+use mathlib.Core.List.{List, [], _∷_, _++_}
 use lib.Dec.{ltb}
 use borrow.Author.Tests.{le-ltb, leb-false, ltb-false, not-false}
 use Rattle.base.specs.Limits.{mostCars, gradeCount}
-use Rattle.base.specs.Answer.{Verdict, accepts, refuses, first, firstNumber, refusal, answer}
+use Rattle.base.specs.Answer.{refuseIf, Verdict, accepts, refuses, first, numberOf, firstNumber, refusal, answer}
 use Rattle.base.proofs.Choice.{never, neither}
 use Rattle.base.proofs.Numbers.{inside}
-use Rattle.base.proofs.Answer.{not-applied, passed, by-number, refuses-append, refused-append, accepted-append, answer-figures}
+use Rattle.base.proofs.Answer.{numbered-append, not-applied, one-applies, accepted-parts, passed, by-number, refuses-append, refused-append, accepted-append, answer-figures}
 use Rattle.table.specs.Table.{Table, tablesTests, tablesVerdict}
+use Rattle.table.proofs.Table.{tables-numbered}
 use Rattle.car.specs.declared.CarAnswer.{CarAnswer}
 use Rattle.car.specs.declared.CarAnswer.the-variants.{Accepted, Refused}
 use Rattle.car.specs.Measured.{gross, net, mass, sixFigures}
@@ -19,7 +20,7 @@ use Rattle.car.proofs.Accepted.{passed-car, grade-known}
 use Rattle.summing.specs.Sums.{sumsOf, mostInTrain, together, sameTotals, sameSums}
 use Rattle.consist.specs.Train.{Train, heldBy, carsOf, shownIn, twice, unsound, full, trainTests, admissionTests, enterTests, enterAnswer, withMasses, afterBy, enterTrain}
 use Rattle.summing.specs.Inner.{Graded, shownAs}
-use Rattle.consist.specs.Inner.{SoundTrain, placeTests, withAnswer}
+use Rattle.consist.specs.Inner.{SoundTrain, placeTests, barTests, withAnswer}
 use Rattle.summing.proofs.Adding.{same-totals, totals-same, same-sums, sums-same}
 
 -- A train is sound where 9 does not apply but for the numbers that it holds.
@@ -73,6 +74,14 @@ place-tests : (t : Train) (number : ℕ) → SoundTrain t → trainTests t numbe
 unfolding full
 place-tests t number h = simp (sound-not t h)
 
+-- where none of 9 to 11 applies there is a place for the number
+module _ (held : ℕ) (numbers : List ℕ) (number : ℕ) {k : ℕ} (e : k ≡ firstNumber (placeTests held numbers number)) (z : k ≡ 0) where
+  none-applies : first (placeTests held numbers number) ≡ accepts
+  none-applies = passed (placeTests held numbers number) refl e z
+
+  pub place-left : held < mostCars
+  place-left = leb-false mostCars held (not-applied 9 (placeTests held numbers number) none-applies)
+
 -- A car that 7 to 11 turn away, and one that they do not.
 
 module _ (ts : List Table) (t : Train) (c : Intake) where
@@ -115,17 +124,11 @@ module _ (ts : List Table) (t : Train) (c : Intake) where
     place-away e n = away none good (e ∙ sym (ap firstNumber (place-tests t (intakeNumber c) sound))) n
 
     -- past 9 to 11, the car's own answer
-    none-applies : {k : ℕ} → k ≡ firstNumber (placeTests (t .held) (t .numbers) (intakeNumber c)) → k ≡ 0 → first (placeTests (t .held) (t .numbers) (intakeNumber c)) ≡ accepts
-    none-applies e z = passed (placeTests (t .held) (t .numbers) (intakeNumber c)) refl e z
-
-    pub place-left : {k : ℕ} → k ≡ firstNumber (placeTests (t .held) (t .numbers) (intakeNumber c)) → k ≡ 0 → t .held < mostCars
-    place-left e z = leb-false mostCars (t .held) (not-applied 9 (placeTests (t .held) (t .numbers) (intakeNumber c)) (none-applies e z))
-
     pub taken-in : (a : CarAnswer) {k : ℕ} → k ≡ firstNumber (placeTests (t .held) (t .numbers) (intakeNumber c)) → k ≡ 0 → carTold a ≡ ownAnswer ts c
         → (carTold a ≡ enterAnswer ts t c) × (withAnswer t (intakeNumber c) (measuredOf c .grade) a ≡ enterTrain ts t c)
     unfolding ownAnswer enterTests enterAnswer enterTrain sixFigures mass
     taken-in a z n e =
-        let h : first (admissionTests ts t c) ≡ accepts = by-train none good ∙ ap first (place-tests t (intakeNumber c) sound) ∙ none-applies z n in
+        let h : first (admissionTests ts t c) ≡ accepts = by-train none good ∙ ap first (place-tests t (intakeNumber c) sound) ∙ none-applies (t .held) (t .numbers) (intakeNumber c) z n in
         (simp (accepted-append (carTests ts c) (admissionTests ts t c) h) e, simp h (by-answer a (first (carTests ts c)) e))
       where
         by-answer : (a : CarAnswer) (v : Verdict) → carTold a ≡ answer v (figuresOf ts c) → withAnswer t (intakeNumber c) (measuredOf c .grade) a ≡ afterBy accepts v ts t c
@@ -136,6 +139,23 @@ module _ (ts : List Table) (t : Train) (c : Intake) where
         by-answer (Accepted f) (refuses k) e = never (cc)
         by-answer (Refused n) accepts e = never (cc)
         by-answer (Refused n) (refuses k) e = refl
+
+-- 7, 8 and what 9 says of a train but for its sixty numbers, tested as one.
+module _ (ts : List Table) (t : Train) {k : ℕ} (e : k ≡ firstNumber (barTests ts t)) where
+  pub barred-away : (c : Intake) → first (beforeTests c) ≡ accepts → (k ≡ 0 → ⊥) → (refusal k ≡ enterAnswer ts t c) × (t ≡ enterTrain ts t c)
+  barred-away c none n = go (first (tablesTests ts)) refl
+    where
+      go : (v : Verdict) → first (tablesTests ts) ≡ v → (refusal k ≡ enterAnswer ts t c) × (t ≡ enterTrain ts t c)
+      go (refuses j) v = tables-away ts t c none (e ∙ ap numberOf (refuses-append (refuseIf 9 (unsound t) ∷ []) (tablesTests ts) v ∙ sym v)) n
+      go accepts v =
+          let nine : k ≡ firstNumber (refuseIf 9 (unsound t) ∷ []) = e ∙ ap numberOf (accepted-append (refuseIf 9 (unsound t) ∷ []) (tablesTests ts) v) in
+          let p = one-applies 9 (unsound t) (by-number (first (refuseIf 9 (unsound t) ∷ [])) nine n) in
+          rw (← p .1) (unsound-away ts t c none v (p .0))
+
+  pub barred-not : k ≡ 0 → (tablesVerdict ts ≡ accepts) × SoundTrain t
+  barred-not z =
+      let p = accepted-parts (refuseIf 9 (unsound t) ∷ []) (tablesTests ts) (passed (barTests ts t) (numbered-append (tablesTests ts) (refuseIf 9 (unsound t) ∷ []) (tables-numbered ts) refl) e z) in
+      (p .0, not-sound t (not-applied 9 (refuseIf 9 (unsound t) ∷ []) (p .1)))
 
 -- a car is accepted only with a grade that there is
 pub graded : (ts : List Table) (c : Intake) (a : CarAnswer) → tablesVerdict ts ≡ accepts → carTold a ≡ ownAnswer ts c → Graded (measuredOf c .grade) a

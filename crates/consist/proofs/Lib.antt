@@ -1,4 +1,5 @@
 pub mod AgainstExamples
+pub mod AgainstProbes
 pub mod Taken
 pub mod Order
 pub mod Places

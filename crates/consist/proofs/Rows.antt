@@ -31,24 +31,6 @@ pub record Placed (t : Train) : Type 0 where
   pub few : t .held ≤ mostCars
 
 module _ (t : Train) (s : Sixty t) (sound : SoundTrain t) where
-  pub entered-placed : (ts : List Table) (c : Intake) → Placed (enterTrain ts t c)
-  unfolding enterTrain admissionTests full
-  entered-placed ts c = by-verdicts (first (admissionTests ts t c)) (first (carTests ts c)) refl
-    where
-      low : first (admissionTests ts t c) ≡ accepts → t .held < mostCars
-      low e =
-          let place : List Test = trainTests t (intakeNumber c) in
-          leb-false mostCars (t .held) (neither (unsound t) (leb mostCars (t .held)) (not-applied 9 place (accepted-parts place (tablesTests ts) (accepted-parts (tablesTests ts ++ place) (beforeTests c) e .1) .1)) .1)
-
-      by-verdicts : (admission own : Verdict) → first (admissionTests ts t c) ≡ admission → Placed (afterBy admission own ts t c)
-      by-verdicts (refuses k) own e = record { sixty = s; few = sound .place }
-      by-verdicts accepts (refuses k) e = record { sixty = sixty-more t (t .sums) (intakeNumber c) 0 0 0 s (low e); few = omega (arith, low e) }
-      by-verdicts accepts accepts e =
-          record {
-            sixty = sixty-more t (sumsWith (t .sums) (carShown ts c)) (intakeNumber c) (measuredOf c .grade) (mass gross ts (measuredOf c)) (mass net ts (measuredOf c)) s (low e);
-            few = omega (arith, low e);
-          }
-
   pub struck-placed : (number : ℕ) → Placed (strikeTrain t number)
   unfolding strikeTests strikeTrain
   struck-placed number = by-verdict (first (strikeTests t number)) refl

@@ -79,10 +79,10 @@ pub record GradesExample : Type 0 where
 
 -- 2. Two cars that the filling order compares, of two and of four readings, at levels less than a millimetre apart, the second on another list of tables.
 
-abbrev otherTables : List Table
+abbrev pub otherTables : List Table
 otherTables = record { kind = 7; rows = record { level = 0; capacity = 0 } ∷ record { level = 9; capacity = 90 } ∷ [] } ∷ cardTables
 
-abbrev fourReadings : Intake
+abbrev pub fourReadings : Intake
 fourReadings = dipped (carOf (7 ∷ 1 ∷ 3 ∷ 1 ∷ 4 ∷ 1_500 ∷ 1_502 ∷ 1_500 ∷ 1_501 ∷ 0 ∷ 600 ∷ 9_500 ∷ 50 ∷ 20 ∷ []))
 
 pub record OrderExample : Type 0 where

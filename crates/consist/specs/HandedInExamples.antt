@@ -23,7 +23,7 @@ abbrev ofThree : Totals → Sums
 ofThree t = sumsFrom t noTotals noTotals t noTotals
 
 -- so many refused cars, the first of this number
-abbrev ofNumber : ℕ → ℕ → Train
+abbrev pub ofNumber : ℕ → ℕ → Train
 ofNumber held number = trainOf noCars held (number ∷ []) [] [] []
 
 -- the numbers from n down to 1
@@ -32,7 +32,7 @@ upTo zero = []
 upTo (suc n) = suc n ∷ upTo n
 
 -- sixty refused cars
-abbrev sixty : Train
+abbrev pub sixty : Train
 sixty = trainOf noCars mostCars (upTo mostCars) [] [] []
 
 -- an accepted car 1 of grade 3 and a refused car 2, with sums

@@ -8,19 +8,24 @@ use lib.ListN.{length, take}
 use Rattle.base.specs.Limits.{mostCars}
 use Rattle.base.specs.Answer.{Test, refuseIf}
 use Rattle.base.specs.Numbers.{member}
+use Rattle.table.specs.Table.{Table, tablesTests}
 use Rattle.car.specs.declared.CarAnswer.{CarAnswer}
 use Rattle.car.specs.Car.{numberTests}
 use Rattle.car.specs.declared.CarAnswer.the-variants.{Accepted, Refused}
 use Rattle.summing.specs.declared.Sums.{Sums}
 use Rattle.summing.specs.Sums.{sumsOf, sumsWith}
 use Rattle.summing.specs.Inner.{Sound, shownAs}
-use Rattle.consist.specs.Train.{Train, emptyTrain, heldBy, Held, refused, weighed, carsOf, shownIn, twice, withNumber, withMasses}
+use Rattle.consist.specs.Train.{Train, emptyTrain, heldBy, Held, refused, weighed, carsOf, shownIn, twice, unsound, withNumber, withMasses}
 use Rattle.consist.specs.Book.{Item}
 use Rattle.consist.specs.Demand3.{trainFrom}
 
 -- 9 to 11 of a train whose sums are sound
 abbrev pub placeTests : ℕ → List ℕ → ℕ → List Test
 placeTests held numbers number = refuseIf 9 (leb mostCars held) ∷ (numberTests number ++ (refuseIf 11 (member number (take held numbers)) ∷ []))
+
+-- 7 and 8, and what 9 says of a train but for its sixty numbers
+abbrev pub barTests : List Table → Train → List Test
+barTests ts t = tablesTests ts ++ (refuseIf 9 (unsound t) ∷ [])
 
 -- a train with sixty places
 pub record Sixty (t : Train) : Type 0 where

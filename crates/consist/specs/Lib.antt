@@ -4,5 +4,6 @@ pub mod Demand3
 pub mod Examples
 pub mod StrikeExamples
 pub mod HandedInExamples
+pub mod ProbeExamples
 pub mod Inner
 pub mod Lent

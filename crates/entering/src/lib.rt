@@ -17,6 +17,10 @@ use car::CarAnswer;
 use table::Directory;
 use table::PLACES;
 
+mod probed; // probed.rt: the car of a portable probe
+
+pub use probed::enter_probed_on;
+
 // What a place holds beside the number: grade, gross and net in kg of an accepted car, else zeros.
 struct Load {
     grade: u32,
@@ -111,6 +115,7 @@ pub fn enter_on(
     ensures { λ r. ⌜
         (carTold (r .answer) ≡ enterAnswer (tablesOf d (now (levels .entry)) (now (capacities .entry))) (lentTrain held (now (numbers .entry)) (now (grades .entry)) (now (grosses .entry)) (now (nets .entry))) (dipped car))
         × (lentTrain (r .held) (now (numbers .exit)) (now (grades .exit)) (now (grosses .exit)) (now (nets .exit)) ≡ enterTrain (tablesOf d (now (levels .entry)) (now (capacities .entry))) (lentTrain held (now (numbers .entry)) (now (grades .entry)) (now (grosses .entry)) (now (nets .entry))) (dipped car))
+        × (r .held ≤ mostCars)
         ⌝ }
 {
     let number = car.number;

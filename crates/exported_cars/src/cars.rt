@@ -1,57 +1,17 @@
 // A car worked out alone, and the running train.
 ghost use mathlib.Core.Path.{_≡_};
-ghost use lib.ListN.{length};
-ghost use Rattle.car.specs.Car.{carOf, dipped, aloneAnswer, carTold};
+ghost use Rattle.car.specs.Car.{carOf, dipped, aloneAnswer};
 ghost use Rattle.consist.specs.Train.{emptyTrain, enterAnswer, enterTrain, strikeAnswer, strikeTrain};
 ghost use Rattle.base.specs.Answer.{figures};
 ghost use Rattle.marshalling.specs.Handed.{lengthIs, numberHanded, sized, Handed, figuresLeft};
-ghost use Rattle.marshalling.specs.Layout.{tablesLent};
-ghost use Rattle.trainslice.specs.Layout.{trainPlaces, trainOf, trainNumbers, TrainHanded};
-ghost use Rattle.exported_cars.specs.Lengths.{carSized, trainSized, figureCount};
-use car::CarAnswer;
+ghost use Rattle.marshalling.specs.Layout.{tablesLent, carSized};
+ghost use Rattle.trainslice.specs.Layout.{trainPlaces, trainOf, trainNumbers, trainSized, TrainHanded};
+ghost use Rattle.reading.specs.Letter.{mostFields};
 use marshalling::BAD_LENGTH;
 use reading::MOST_FIELDS;
 use train::Train;
 use train_strike::StrikeAnswer;
 use trainslice::TRAIN_PLACES;
-
-// How many numbers an accepted car shows.
-const FIGURES: usize = 6;
-
-// Whether the slices of a car, its tables and its figures have the lengths that they must have.
-fn car_fits(
-    types: &[u32],
-    rows: &[u32],
-    levels: &[u32],
-    capacities: &[u32],
-    car: &[u32],
-    figures: &[u32],
-) -> bool
-    ensures { λ r. ⌜ r ≡ carSized (now (types .entry)) (now (rows .entry)) (now (levels .entry)) (now (capacities .entry)) (now (car .entry)) (now (figures .entry)) ⌝ }
-{
-    if car.len() != MOST_FIELDS {
-        return false;
-    }
-    if figures.len() != FIGURES {
-        return false;
-    }
-    marshalling::tables_fit(types, rows, levels, capacities)
-}
-
-// Hands a car's answer over: its six figures, or the refusal.
-fn hand_over(answer: CarAnswer, figures: &mut [u32]) -> u32
-    requires { ⌜ length (now figures) ≡ figureCount ⌝ }
-    ensures { λ r. ⌜ Handed figuresLeft (carTold answer) r (now (figures .entry)) (now (figures .exit)) ⌝ }
-{
-    match answer {
-        CarAnswer::Accepted(f) => {
-            let six = [f.number, f.level, f.v0, f.v15, f.gross, f.net];
-            marshalling::copy(&six, figures);
-            0
-        }
-        CarAnswer::Refused(number) => number,
-    }
-}
 
 // A car worked out alone: its six figures.
 #[no_mangle]
@@ -65,16 +25,16 @@ pub extern "C" fn rack_work_out(
     figures: &mut [u32],
 ) -> u32
     ensures { λ r. ⌜ Handed figuresLeft (sized
-        (carSized (now (types .entry)) (now (rows .entry)) (now (levels .entry)) (now (capacities .entry)) (now (car .entry)) (now (figures .entry)))
+        (carSized mostFields (now (types .entry)) (now (rows .entry)) (now (levels .entry)) (now (capacities .entry)) (now (car .entry)) (now (figures .entry)))
         (aloneAnswer (tablesLent count (now (types .entry)) (now (rows .entry)) (now (levels .entry)) (now (capacities .entry))) (dipped (carOf (now (car .entry))))))
         r (now (figures .entry)) (now (figures .exit)) ⌝ }
 {
-    if car_fits(types, rows, levels, capacities, car, figures) {
+    if marshalling::car_fits(MOST_FIELDS, types, rows, levels, capacities, car, figures) {
         let d = marshalling::directory_of(count, types, rows);
         let level_places = marshalling::all_places(levels);
         let capacity_places = marshalling::all_places(capacities);
         let answer = train::work_out(d, &level_places, &capacity_places, marshalling::car_of(car));
-        return hand_over(answer, figures);
+        return marshalling::hand_over(answer, figures);
     }
     BAD_LENGTH
 }
@@ -105,11 +65,11 @@ pub extern "C" fn rack_train_enter(
 ) -> u32
     ensures { λ r. ⌜
         Handed figuresLeft (sized
-        (trainSized (now (train .entry)) (now (types .entry)) (now (rows .entry)) (now (levels .entry)) (now (capacities .entry)) (now (car .entry)) (now (figures .entry)))
+        (trainSized mostFields (now (train .entry)) (now (types .entry)) (now (rows .entry)) (now (levels .entry)) (now (capacities .entry)) (now (car .entry)) (now (figures .entry)))
         (enterAnswer (tablesLent count (now (types .entry)) (now (rows .entry)) (now (levels .entry)) (now (capacities .entry))) (trainOf (now (train .entry))) (dipped (carOf (now (car .entry))))))
         r (now (figures .entry)) (now (figures .exit))
         × TrainHanded
-        (trainSized (now (train .entry)) (now (types .entry)) (now (rows .entry)) (now (levels .entry)) (now (capacities .entry)) (now (car .entry)) (now (figures .entry)))
+        (trainSized mostFields (now (train .entry)) (now (types .entry)) (now (rows .entry)) (now (levels .entry)) (now (capacities .entry)) (now (car .entry)) (now (figures .entry)))
         (enterTrain (tablesLent count (now (types .entry)) (now (rows .entry)) (now (levels .entry)) (now (capacities .entry))) (trainOf (now (train .entry))) (dipped (carOf (now (car .entry)))))
         (now (train .entry)) (now (train .exit))
         ⌝ }
@@ -117,7 +77,7 @@ pub extern "C" fn rack_train_enter(
     if train.len() != TRAIN_PLACES {
         return BAD_LENGTH;
     }
-    if car_fits(types, rows, levels, capacities, car, figures) {
+    if marshalling::car_fits(MOST_FIELDS, types, rows, levels, capacities, car, figures) {
         let d = marshalling::directory_of(count, types, rows);
         let level_places = marshalling::all_places(levels);
         let capacity_places = marshalling::all_places(capacities);
@@ -126,7 +86,7 @@ pub extern "C" fn rack_train_enter(
         let next = step.train;
         trainslice::write_train(next, train);
         let answer = step.answer;
-        return hand_over(answer, figures);
+        return marshalling::hand_over(answer, figures);
     }
     BAD_LENGTH
 }

@@ -1,3 +1,4 @@
 pub mod Copying
 pub mod Handed
 pub mod Lengths
+pub mod Examples

@@ -28,6 +28,10 @@ use table::Directory;
 use table::PLACES;
 use terms::MOST_LEVEL_TERM;
 
+mod probed; // probed.rt: the permitted error of a probe's car
+
+pub use probed::permitted_error_probe;
+
 // The level term of an accepted car of which m is measured, from its V0 (0.01 dm³), in 0.0001 %.
 fn level_term_on(
     d: Directory,

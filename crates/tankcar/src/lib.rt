@@ -66,6 +66,18 @@ pub use accuracy::Permitted;
 pub use accuracy::PermittedError;
 pub use permitting::permitted_error;
 
+// A portable probe: a reading and a set in tenths, and its car, which `Train::enter_probe` enters in a train.
+pub use car::ProbeCar;
+pub use permitting::permitted_error_probe;
+pub use probe::reading_tenths;
+pub use probe::set_tenths;
+pub use probe_spec::Converted;
+pub use probe_spec::ConvertedSet;
+pub use probe_spec::ProbeReading;
+pub use probe_spec::ProbeSet;
+pub use probe_spec::SetTenths;
+pub use train::work_out_probe;
+
 // A sheet answered; LEAST_BUFFER bytes are the least answer buffer.
 pub use answers::Reply;
 pub use listing::LEAST_BUFFER;

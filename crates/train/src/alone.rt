@@ -17,7 +17,7 @@ use table::Directory;
 use table::PLACES;
 
 // 7 and 8 of its tables and 10 of its number; 0 where none applies.
-fn alone_refusal(
+pub fn alone_refusal(
     d: Directory,
     levels: &[u32; PLACES],
     capacities: &[u32; PLACES],

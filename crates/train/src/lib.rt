@@ -5,9 +5,12 @@ use summing::Sums;
 use train_strike::StrikeAnswer;
 
 mod alone; // alone.rt: a car by itself
+mod probed; // probed.rt: the car of a portable probe
 mod running; // running.rt: the running train
 
 pub use alone::work_out;
+pub use probed::work_out_probe;
+pub use probed::work_probed;
 
 // The running train: its sums, and the cars it holds in the first `held` places, by number, grade, gross and net in kg; grade 0
 // is a car that was refused, and has no masses.

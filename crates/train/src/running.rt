@@ -3,6 +3,7 @@ ghost use mathlib.Core.Path.{_≡_};
 ghost use mathlib.Core.List.{List};
 ghost use Prim.Native.Nat.{_≤_};
 ghost use Rattle.base.specs.Limits.{mostCars};
+ghost use Rattle.base.specs.Answer.{firstNumber};
 ghost use Rattle.table.specs.Layout.{tablesOf};
 ghost use Rattle.car.specs.Car.{measured, dipped, carTold};
 ghost use Rattle.consist.specs.Train.{emptyTrain, enterAnswer, enterTrain, strikeAnswer, strikeTrain};
@@ -11,7 +12,8 @@ ghost use Rattle.consist.specs.Book.{car as carItem};
 ghost use Rattle.consist.specs.Book.{strike as strikeItem};
 ghost use Rattle.consist.specs.Demand3.{Close, Reconciled, Continues, InOrder};
 ghost use Rattle.consist.specs.Examples.{BookExample, GradesExample};
-ghost use Rattle.consist.specs.Lent.{lentTrain};
+ghost use Rattle.consist.specs.Inner.{Sixty, barTests};
+ghost use Rattle.consist.specs.Lent.{talliedTrain, lentTrain};
 ghost use Rattle.consist.specs.HandedInExamples.{EnterOrder, StrikeOrder};
 ghost use Rattle.consist.specs.StrikeExamples.{StrikesExample};
 ghost use Rattle.train_strike.specs.Told.{strikeTold};
@@ -31,7 +33,7 @@ use table::PLACES;
 use train_strike::StrikeAnswer;
 
 // The train of these cars, with the sums that they make.
-fn with_sums(
+pub fn with_sums(
     held: u32,
     numbers: [u32; MOST_CARS],
     grades: [u32; MOST_CARS],
@@ -50,6 +52,30 @@ fn with_sums(
         grosses,
         nets,
     }
+}
+
+// 7 and 8 of the tables, then 9 of a train that is not sound; 0 where none applies.
+pub fn bar_refusal(
+    d: Directory,
+    levels: &[u32; PLACES],
+    capacities: &[u32; PLACES],
+    tally: Tally,
+    numbers: &[u32; MOST_CARS],
+    grades: &[u32; MOST_CARS],
+    grosses: &[u32; MOST_CARS],
+    nets: &[u32; MOST_CARS],
+) -> u32
+    requires { ⌜ Sixty (talliedTrain tally (now numbers) (now grades) (now grosses) (now nets)) ⌝ }
+    ensures { λ r. ⌜ r ≡ firstNumber (barTests (tablesOf d (now (levels .entry)) (now (capacities .entry))) (talliedTrain tally (now (numbers .entry)) (now (grades .entry)) (now (grosses .entry)) (now (nets .entry)))) ⌝ }
+{
+    let by_tables = tabletests::check_tables(d, levels, capacities);
+    if by_tables != 0 {
+        return by_tables;
+    }
+    if train_audit::is_unsound(tally, numbers, grades, grosses, nets) {
+        return 9;
+    }
+    0
 }
 
 impl Train {
@@ -93,13 +119,6 @@ impl Train {
             × EnterOrder
             ⌝ }
     {
-        let refusal = tabletests::check_tables(d, levels, capacities);
-        if refusal != 0 {
-            return Step {
-                answer: CarAnswer::Refused(refusal),
-                train: self,
-            };
-        }
         let sums = self.sums;
         let held = self.held;
         let mut numbers = self.numbers;
@@ -107,9 +126,19 @@ impl Train {
         let mut grosses = self.grosses;
         let mut nets = self.nets;
         let tally = Tally { sums, held };
-        if train_audit::is_unsound(tally, &numbers, &grades, &grosses, &nets) {
+        let refusal = bar_refusal(
+            d,
+            levels,
+            capacities,
+            tally,
+            &numbers,
+            &grades,
+            &grosses,
+            &nets,
+        );
+        if refusal != 0 {
             return Step {
-                answer: CarAnswer::Refused(9),
+                answer: CarAnswer::Refused(refusal),
                 train: self,
             };
         }

@@ -1,2 +1,3 @@
 pub mod Slice
 pub mod Examples
+pub mod Lengths

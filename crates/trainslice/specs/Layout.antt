@@ -1,13 +1,15 @@
 -- How a train lies in a slice of numbers, and what is handed back in one.
 use Prim.Native.Nat.{ℕ, _+_, _*_, _/_, _%_}
 use mathlib.Core.Path.{_≡_}
-use mathlib.Core.Bool.{Bool, true, cond}
+use mathlib.Core.Bool.{Bool, true, cond, _&&_}
 use mathlib.Core.List.{List, [], _∷_, _++_}
 use lib.ListN.{getD, take, drop}
 use Rattle.base.specs.Limits.{mostCars, gradeCount}
 use Rattle.summing.specs.declared.Totals.{Totals}
 use Rattle.summing.specs.declared.Sums.{Sums}
 use Rattle.consist.specs.Train.{Train}
+use Rattle.marshalling.specs.Handed.{lengthIs}
+use Rattle.marshalling.specs.Layout.{carSized}
 
 -- Totals: accepted cars, gross and net in kg, each as a low and a high half of 32 bits.
 
@@ -59,6 +61,11 @@ sumsNumbers s = totalsNumbers (s .all) ++ gradesNumbers (s .grades)
 
 abbrev pub trainNumbers : Train → List ℕ
 trainNumbers t = sumsNumbers (t .sums) ++ (t .held ∷ (t .numbers ++ (t .grades ++ (t .grosses ++ t .nets))))
+
+-- the lengths of a train and of a car of so many numbers with its tables
+unfoldable pub trainSized : ℕ → List ℕ → List ℕ → List ℕ → List ℕ → List ℕ → List ℕ → List ℕ → Bool
+trainSized fields train types rows levels capacities car figures =
+    lengthIs trainPlaces train && carSized fields types rows levels capacities car figures
 
 -- the train t handed back, in the lent numbers where the lengths are right; the next call reads t from them, and a train that was
 -- not changed is left number by number

@@ -20,6 +20,11 @@ use gauging::Volume;
 use table::Directory;
 use table::PLACES;
 
+mod probed; // probed.rt: the car of a portable probe
+
+pub use probed::probed_of;
+pub use probed::work_probed_on;
+
 // 10; 0 where it does not apply.
 pub fn number_refusal(number: u32) -> u32
     ensures { λ r. ⌜ r ≡ firstNumber (numberTests number) ⌝ }

@@ -22,12 +22,11 @@ train s = lentTrain (s .args .held) (now (s .args .numbers)) (now (s .args .grad
 
 -- past 9 there is a place for the number
 place-in : (w : tie.After-work-on) → w .before .before .before .before .args .held < mostCars
-unfolding all
 place-in w =
     let l = w .before in
     let r = l .before in
     let s = r .before .before in
-    place-left (all s) (train s) (dipped (s .args .car)) refl (s .pre .2 .accepted) (s .pre .1) (r .place-refusal .ensures) (l .if1 .left)
+    place-left (s .args .held) (now (s .args .numbers)) (s .args .car .number) (r .place-refusal .ensures) (l .if1 .left)
 
 place-refusal-requires : tie.Need-place-refusal-requires
 place-refusal-requires c κs = search needs
@@ -37,7 +36,8 @@ unfolding all
 returns c =
     let r = c .before in
     let s = r .before .before in
-    place-away (all s) (train s) (dipped (s .args .car)) refl (s .pre .2 .accepted) (s .pre .1) (r .place-refusal .ensures) (c .if1 .taken)
+    let a = place-away (all s) (train s) (dipped (s .args .car)) refl (s .pre .2 .accepted) (s .pre .1) (r .place-refusal .ensures) (c .if1 .taken) in
+    (a .0, a .1, s .pre .1 .place)
 
 work-on-requires : tie.Need-work-on-requires
 work-on-requires c κs = search needs
@@ -59,7 +59,7 @@ returns-2 c =
     let a = w .work-on .result in
     let g = graded (all s) h a (s .pre .2 .accepted) (w .work-on .ensures) in
     let t = taken-in (all s) (train s) h refl (s .pre .2 .accepted) (s .pre .1) a (r .place-refusal .ensures) (l .if1 .left) (w .work-on .ensures) in
-    (ap carTold (c .hold .ensures .0) ∙ t .0, c .hold .ensures .2 g ∙ t .1)
+    (ap carTold (c .hold .ensures .0) ∙ t .0, c .hold .ensures .2 g ∙ t .1, c .hold .ensures .1)
 
 pub enter-on-spec : {M : Type 1} → statement M
 enter-on-spec =

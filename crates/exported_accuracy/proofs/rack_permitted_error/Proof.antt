@@ -1,13 +1,9 @@
 -- `exported_accuracy::rack_permitted_error` meets its contract: the tables, the car and the errors that were copied are those that were lent.
-use Prim.Native.Nat.{ℕ}
 use mathlib.Core.Path.{_≡_, sym, subst, _∙_}
-use mathlib.Core.Bool.{true}
 use mathlib.Core.List.{List}
-use lib.ListN.{length}
-use borrow.Author.Tests.{eqb-true}
 use denote.Ref.{now}
 use Rattle.base.specs.Answer.{Answer, refusal}
-use Rattle.base.proofs.Choice.{both-hold, never}
+use Rattle.base.proofs.Choice.{never}
 use Rattle.reading.specs.Letter.{mostFields}
 use Rattle.table.specs.Table.{Table}
 use Rattle.car.specs.declared.Car.{Car}
@@ -16,24 +12,10 @@ use Rattle.accuracy.specs.declared.Errors.{Errors}
 use Rattle.accuracy.specs.Permitted.{permittedTold, OnlyAnswer}
 use Rattle.marshalling.specs.Handed.{figuresLeft}
 use Rattle.marshalling.proofs.Handed.{handed, handed-as, right-sized, wrong-sized}
-use Rattle.marshalling.proofs.Lengths.{TablesRight, tables-right, tables-copied}
-use Rattle.exported_accuracy.specs.Layout.{errorCount, permittedCount, permittedSized}
+use Rattle.marshalling.proofs.Lengths.{PermittedRight, permitted-lengths, tables-copied}
 use borrow.Author.Needs.{needs}
 use Rattle.exported_accuracy.proofs.rack_permitted_error.Statement.{statement}
 use Rattle.exported_accuracy.proofs.rack_permitted_error.Tie as tie
-
-abbrev Right : (types rows levels capacities car errors figures : List ℕ) → Type 0
-Right types rows levels capacities car errors figures =
-    (length car ≡ mostFields) × (length errors ≡ errorCount) × (length figures ≡ permittedCount) × TablesRight types rows levels capacities
-
-lengths-right : (types rows levels capacities car errors figures : List ℕ) → permittedSized types rows levels capacities car errors figures ≡ true
-    → Right types rows levels capacities car errors figures
-unfolding permittedSized
-lengths-right types rows levels capacities car errors figures e =
-    let last = both-hold _ _ e in
-    let third = both-hold _ _ (last .0) in
-    let first = both-hold _ _ (third .0) in
-    (eqb-true _ _ (first .0), eqb-true _ _ (first .1), eqb-true _ _ (third .1), tables-right types rows levels capacities (last .1))
 
 -- the answer for equal tables, car and errors
 lent : {ts us : List Table} {c d : Car} {e f : Errors} {a : Answer} → ts ≡ us → c ≡ d → e ≡ f → OnlyAnswer ts (dipped c) e a → OnlyAnswer us (dipped d) f a
@@ -44,7 +26,8 @@ abbrev start : tie.Then1 → tie.Start
 start c = c .before .before .before .before .before .before .before .before .before .before
 
 right : (c : tie.Then1)
-    → Right
+    → PermittedRight
+    mostFields
     (now (start c .args .types))
     (now (start c .args .rows))
     (now (start c .args .levels))
@@ -52,7 +35,7 @@ right : (c : tie.Then1)
     (now (start c .args .car))
     (now (start c .args .errors))
     (now (start c .args .figures))
-right c = lengths-right _ _ _ _ _ _ _ (sym (c .before .permitted-fits .ensures) ∙ c .if1 .taken)
+right c = permitted-lengths _ _ _ _ _ _ _ _ (sym (c .before .permitted-fits .ensures) ∙ c .if1 .taken)
 
 permitted-fits-requires : tie.Need-permitted-fits-requires
 permitted-fits-requires c κs = search needs
@@ -75,8 +58,8 @@ car-of-requires c κs = right (c .before) .0
 permitted-error-requires : tie.Need-permitted-error-requires
 permitted-error-requires c κs = search needs
 
-hand-over-requires : tie.Need-hand-over-requires
-hand-over-requires c κs = right (c .before .before .before .before .before .before .before .before .before) .2
+hand-over-limit-requires : tie.Need-hand-over-limit-requires
+hand-over-limit-requires c κs = right (c .before .before .before .before .before .before .before .before .before) .2
 
 same-length : tie.Need-same-length
 same-length c = search needs
@@ -93,7 +76,7 @@ returns c =
     record {
       answer = permittedTold (p .permitted-error .result);
       only = λ _. lent (tables-copied (d .directory-of .ensures) (q .before .all-places .ensures) (q .all-places2 .ensures)) (k .car-of .ensures) (e .errors-of .ensures) (p .permitted-error .ensures .0);
-      handed = handed-as (h .hand-over .ensures) (right-sized _ (sym (t .before .permitted-fits .ensures) ∙ t .if1 .taken));
+      handed = handed-as (h .hand-over-limit .ensures) (right-sized _ (sym (t .before .permitted-fits .ensures) ∙ t .if1 .taken));
     }
 
 same-length-2 : tie.Need-same-length-2
@@ -115,7 +98,7 @@ rack-permitted-error-spec =
     all-places-requires
     all-places-requires-2
     permitted-error-requires
-    hand-over-requires
+    hand-over-limit-requires
     same-length
     returns
     same-length-2

@@ -7,6 +7,7 @@ use Rattle.table.specs.Table.{Table}
 use Rattle.table.specs.Layout.{tablesOf}
 use Rattle.car.specs.Car.{measured, dipped}
 use Rattle.accuracy.specs.Permitted.{permittedTold}
+use Rattle.accuracy.proofs.AgainstCard.{permitted-right}
 use Rattle.permitting.proofs.Answered.{whole, away, level-shown, accepted-as, behind}
 use Rattle.permitting.proofs.permitted_error.Statement.{statement}
 use Rattle.permitting.proofs.permitted_error.Tie as tie
@@ -51,14 +52,14 @@ returns c =
     let a = x .before .before in
     let s = a .before in
     let h = dipped (s .args .car) in
-    whole (all s) h (s .args .errors) (permittedTold (c .limit-beside .result))
+    whole permitted-right (all s) h (s .args .errors) (permittedTold (c .limit-beside .result))
     (c .limit-beside .ensures h (accepted-as (all s) h (a .work-out .ensures .0) (x .six .given .1) (same m)))
 
 returns-2 : tie.Need-returns-2
 returns-2 c =
     let a = c .before .before .before in
     let s = a .before in
-    away (all s) (dipped (s .args .car)) (a .work-out .ensures .0) (c .before .number .given .1) (s .args .errors)
+    away permitted-right (all s) (dipped (s .args .car)) (s .args .errors) (a .work-out .ensures .0) (c .before .number .given .1)
 
 pub permitted-error-spec : {M : Type 1} → statement M
 permitted-error-spec =

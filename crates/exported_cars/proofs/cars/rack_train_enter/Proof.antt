@@ -7,6 +7,7 @@ use lib.ListN.{getD}
 use borrow.Author.Tests.{eq-eqb, ne-eqb}
 use borrow.Author.Needs.{needs}
 use denote.Ref.{now}
+use Rattle.reading.specs.Letter.{mostFields}
 use Rattle.table.specs.Table.{Table}
 use Rattle.car.specs.declared.Car.{Car}
 use Rattle.car.specs.Car.{Intake, dipped}
@@ -14,9 +15,9 @@ use Rattle.consist.specs.Train.{Train, enterAnswer, enterTrain}
 use Rattle.marshalling.specs.Handed.{figuresLeft}
 use Rattle.trainslice.specs.Layout.{half, trainNumbers}
 use Rattle.marshalling.proofs.Handed.{handed, handed-as, right-sized, wrong-sized}
-use Rattle.marshalling.proofs.Lengths.{tables-copied}
-use Rattle.exported_cars.proofs.Lengths.{CarRight, car-right, train-wrong, train-sized}
+use Rattle.marshalling.proofs.Lengths.{CarRight, car-right, tables-copied}
 use Rattle.trainslice.proofs.Slice.{train-handed, train-kept}
+use Rattle.trainslice.proofs.Lengths.{train-wrong, train-sized}
 use Rattle.exported_cars.proofs.cars.rack_train_enter.Statement.{statement}
 use Rattle.exported_cars.proofs.cars.rack_train_enter.Tie as tie
 
@@ -25,20 +26,21 @@ start c = c .before .before .before .before .before .before .before .before .bef
 
 right : (c : tie.Then2)
     → CarRight
+    mostFields
     (now (start c .args .types))
     (now (start c .args .rows))
     (now (start c .args .levels))
     (now (start c .args .capacities))
     (now (start c .args .car))
     (now (start c .args .figures))
-right c = car-right _ _ _ _ _ _ (sym (c .before .car-fits .ensures) ∙ c .if2 .taken)
+right c = car-right _ _ _ _ _ _ _ (sym (c .before .car-fits .ensures) ∙ c .if2 .taken)
 
 same : {A : Type 0} (on : List Table → Train → Intake → A) {ts ts' : List Table} {t t' : Train} {car car' : Car} → ts ≡ ts' → t ≡ t' → car ≡ car' → on ts t (dipped car) ≡ on ts' t' (dipped car')
 same on ts t car = cc
 
 returns : tie.Need-returns
 returns c =
-    let w = train-wrong _ _ _ _ _ _ _ (ne-eqb _ _ (c .if1 .taken)) in
+    let w = train-wrong _ _ _ _ _ _ _ _ (ne-eqb _ _ (c .if1 .taken)) in
     (handed figuresLeft _ (wrong-sized _ w), train-kept w)
 
 car-fits-requires : tie.Need-car-fits-requires
@@ -85,7 +87,7 @@ returns-2 c =
     let t = e .before .before .before .before .train-of .ensures in
     let car = e .before .car-of .ensures in
     let n : (i : ℕ) → getD (now (start k .args .train)) i 0 < half = λ i. omega (arith, k .before .before .before .before .before .before .before .before .before .before .slice-known .given i) in
-    let r = train-sized _ _ _ _ _ _ _ (eq-eqb _ _ (k .before .before .before .if1 .left)) (sym (k .before .car-fits .ensures) ∙ k .if2 .taken) in
+    let r = train-sized _ _ _ _ _ _ _ _ (eq-eqb _ _ (k .before .before .before .if1 .left)) (sym (k .before .car-fits .ensures) ∙ k .if2 .taken) in
     let next = e .enter .ensures .1 ∙ same enterTrain ts t car in (
       handed-as (h .hand-over .ensures) (e .enter .ensures .0 ∙ same enterAnswer ts t car ∙ right-sized _ r),
       train-handed (k .before .before .before .if1 .left) n r (w .write-train .ensures .0 ∙ ap trainNumbers next) (w .write-train .ensures .1 ∙ next),
@@ -96,7 +98,7 @@ same-length-3 c = search needs
 
 returns-3 : tie.Need-returns-3
 returns-3 c =
-    let w = train-sized _ _ _ _ _ _ _ (eq-eqb _ _ (c .before .before .before .if1 .left)) (sym (c .before .car-fits .ensures) ∙ c .if2 .left) in
+    let w = train-sized _ _ _ _ _ _ _ _ (eq-eqb _ _ (c .before .before .before .if1 .left)) (sym (c .before .car-fits .ensures) ∙ c .if2 .left) in
     (handed figuresLeft _ (wrong-sized _ w), train-kept w)
 
 pub rack-train-enter-spec : {M : Type 1} → statement M

@@ -3,14 +3,14 @@ use mathlib.Core.Path.{sym, ap, _∙_}
 use mathlib.Core.List.{List}
 use borrow.Author.Needs.{needs}
 use denote.Ref.{now}
+use Rattle.reading.specs.Letter.{mostFields}
 use Rattle.table.specs.Table.{Table}
 use Rattle.table.specs.Layout.{tablesOf}
 use Rattle.car.specs.declared.Car.{Car}
 use Rattle.car.specs.Car.{carOf, dipped, aloneAnswer}
 use Rattle.marshalling.specs.Handed.{figuresLeft}
 use Rattle.marshalling.proofs.Handed.{handed, handed-as, right-sized, wrong-sized}
-use Rattle.marshalling.proofs.Lengths.{tables-copied}
-use Rattle.exported_cars.proofs.Lengths.{CarRight, car-right}
+use Rattle.marshalling.proofs.Lengths.{CarRight, car-right, tables-copied}
 use Rattle.exported_cars.proofs.cars.rack_work_out.Statement.{statement}
 use Rattle.exported_cars.proofs.cars.rack_work_out.Tie as tie
 
@@ -19,13 +19,14 @@ start c = c .before .before .before .before .before .before .before .before .bef
 
 right : (c : tie.Then1)
     → CarRight
+    mostFields
     (now (start c .args .types))
     (now (start c .args .rows))
     (now (start c .args .levels))
     (now (start c .args .capacities))
     (now (start c .args .car))
     (now (start c .args .figures))
-right c = car-right _ _ _ _ _ _ (sym (c .before .car-fits .ensures) ∙ c .if1 .taken)
+right c = car-right _ _ _ _ _ _ _ (sym (c .before .car-fits .ensures) ∙ c .if1 .taken)
 
 car-fits-requires : tie.Need-car-fits-requires
 car-fits-requires c κs = search needs

@@ -1,0 +1,95 @@
+// A probe's car, its set by three floats: alone, and entered in the running train.
+ghost use mathlib.Core.Path.{_≡_};
+ghost use Rattle.car.specs.Car.{probeCarOf, probed, aloneAnswer};
+ghost use Rattle.consist.specs.Train.{enterAnswer, enterTrain};
+ghost use Rattle.marshalling.specs.Handed.{sized, Handed, figuresLeft};
+ghost use Rattle.marshalling.specs.Layout.{tablesLent, setOf, probeFields, carSized};
+ghost use Rattle.trainslice.specs.Layout.{trainOf, trainSized, TrainHanded};
+use marshalling::BAD_LENGTH;
+use marshalling::PROBE_FIELDS;
+use probe_spec::ProbeSet;
+use trainslice::TRAIN_PLACES;
+
+// A probe's car worked out alone: its six figures.
+#[no_mangle]
+pub extern "C" fn rack_work_out_probe(
+    count: u32,
+    types: &[u32],
+    rows: &[u32],
+    levels: &[u32],
+    capacities: &[u32],
+    car: &[u32],
+    level: f32,
+    temperature: f32,
+    density: f32,
+    figures: &mut [u32],
+) -> u32
+    ensures { λ r. ⌜ Handed figuresLeft (sized
+        (carSized probeFields (now (types .entry)) (now (rows .entry)) (now (levels .entry)) (now (capacities .entry)) (now (car .entry)) (now (figures .entry)))
+        (aloneAnswer (tablesLent count (now (types .entry)) (now (rows .entry)) (now (levels .entry)) (now (capacities .entry))) (probed (probeCarOf (now (car .entry)) (setOf level temperature density)))))
+        r (now (figures .entry)) (now (figures .exit)) ⌝ }
+{
+    if marshalling::car_fits(PROBE_FIELDS, types, rows, levels, capacities, car, figures) {
+        let d = marshalling::directory_of(count, types, rows);
+        let level_places = marshalling::all_places(levels);
+        let capacity_places = marshalling::all_places(capacities);
+        let set = ProbeSet {
+            level,
+            temperature,
+            density,
+        };
+        let fields = marshalling::probe_car_of(car, set);
+        let answer = train::work_out_probe(d, &level_places, &capacity_places, fields);
+        return marshalling::hand_over(answer, figures);
+    }
+    BAD_LENGTH
+}
+
+// A probe's car entered in a train with its tables: its six figures, and the train to hand in next.
+#[no_mangle]
+pub extern "C" fn rack_train_enter_probe(
+    train: &mut [u32],
+    count: u32,
+    types: &[u32],
+    rows: &[u32],
+    levels: &[u32],
+    capacities: &[u32],
+    car: &[u32],
+    level: f32,
+    temperature: f32,
+    density: f32,
+    figures: &mut [u32],
+) -> u32
+    ensures { λ r. ⌜
+        Handed figuresLeft (sized
+        (trainSized probeFields (now (train .entry)) (now (types .entry)) (now (rows .entry)) (now (levels .entry)) (now (capacities .entry)) (now (car .entry)) (now (figures .entry)))
+        (enterAnswer (tablesLent count (now (types .entry)) (now (rows .entry)) (now (levels .entry)) (now (capacities .entry))) (trainOf (now (train .entry))) (probed (probeCarOf (now (car .entry)) (setOf level temperature density)))))
+        r (now (figures .entry)) (now (figures .exit))
+        × TrainHanded
+        (trainSized probeFields (now (train .entry)) (now (types .entry)) (now (rows .entry)) (now (levels .entry)) (now (capacities .entry)) (now (car .entry)) (now (figures .entry)))
+        (enterTrain (tablesLent count (now (types .entry)) (now (rows .entry)) (now (levels .entry)) (now (capacities .entry))) (trainOf (now (train .entry))) (probed (probeCarOf (now (car .entry)) (setOf level temperature density))))
+        (now (train .entry)) (now (train .exit))
+        ⌝ }
+{
+    if train.len() != TRAIN_PLACES {
+        return BAD_LENGTH;
+    }
+    if marshalling::car_fits(PROBE_FIELDS, types, rows, levels, capacities, car, figures) {
+        let d = marshalling::directory_of(count, types, rows);
+        let level_places = marshalling::all_places(levels);
+        let capacity_places = marshalling::all_places(capacities);
+        let set = ProbeSet {
+            level,
+            temperature,
+            density,
+        };
+        let fields = marshalling::probe_car_of(car, set);
+        let running = trainslice::train_of(train);
+        let step = running.enter_probe(d, &level_places, &capacity_places, fields);
+        let next = step.train;
+        trainslice::write_train(next, train);
+        let answer = step.answer;
+        return marshalling::hand_over(answer, figures);
+    }
+    BAD_LENGTH
+}

@@ -1,0 +1,4 @@
+pub mod Tenths
+pub mod Nearest
+pub mod ProbeCard
+pub mod Inner
