@@ -7,6 +7,7 @@ ghost use Rattle.marshalling.specs.Layout.{tablesLent, setOf, probeFields, carS
 ghost use Rattle.trainslice.specs.Layout.{trainOf, trainSized, TrainHanded};
 use marshalling::BAD_LENGTH;
 use marshalling::PROBE_FIELDS;
+use probe_spec::ConvertedSet;
 use probe_spec::ProbeSet;
 use trainslice::TRAIN_PLACES;
 
@@ -30,17 +31,23 @@ pub extern "C" fn rack_work_out_probe(
         r (now (figures .entry)) (now (figures .exit)) ⌝ }
 {
     if marshalling::car_fits(PROBE_FIELDS, types, rows, levels, capacities, car, figures) {
-        let d = marshalling::directory_of(count, types, rows);
-        let level_places = marshalling::all_places(levels);
-        let capacity_places = marshalling::all_places(capacities);
         let set = ProbeSet {
             level,
             temperature,
             density,
         };
-        let fields = marshalling::probe_car_of(car, set);
-        let answer = train::work_out_probe(d, &level_places, &capacity_places, fields);
-        return marshalling::hand_over(answer, figures);
+        match probe::set_tenths(set) {
+            ConvertedSet::Refused(number) => return number,
+            ConvertedSet::Tenths(t) => {
+                let fields = marshalling::probe_car_of(car, set);
+                let p = working::probed_of(fields, t);
+                let d = marshalling::directory_of(count, types, rows);
+                let level_places = marshalling::all_places(levels);
+                let capacity_places = marshalling::all_places(capacities);
+                let answer = train::work_probed(d, &level_places, &capacity_places, p);
+                return marshalling::hand_over(answer, figures);
+            }
+        }
     }
     BAD_LENGTH
 }
@@ -75,21 +82,27 @@ pub extern "C" fn rack_train_enter_probe(
         return BAD_LENGTH;
     }
     if marshalling::car_fits(PROBE_FIELDS, types, rows, levels, capacities, car, figures) {
-        let d = marshalling::directory_of(count, types, rows);
-        let level_places = marshalling::all_places(levels);
-        let capacity_places = marshalling::all_places(capacities);
         let set = ProbeSet {
             level,
             temperature,
             density,
         };
-        let fields = marshalling::probe_car_of(car, set);
-        let running = trainslice::train_of(train);
-        let step = running.enter_probe(d, &level_places, &capacity_places, fields);
-        let next = step.train;
-        trainslice::write_train(next, train);
-        let answer = step.answer;
-        return marshalling::hand_over(answer, figures);
+        match probe::set_tenths(set) {
+            ConvertedSet::Refused(number) => return number,
+            ConvertedSet::Tenths(t) => {
+                let fields = marshalling::probe_car_of(car, set);
+                let p = working::probed_of(fields, t);
+                let d = marshalling::directory_of(count, types, rows);
+                let level_places = marshalling::all_places(levels);
+                let capacity_places = marshalling::all_places(capacities);
+                let running = trainslice::train_of(train);
+                let step = train::enter_probed(running, d, &level_places, &capacity_places, p);
+                let next = step.train;
+                trainslice::write_train(next, train);
+                let answer = step.answer;
+                return marshalling::hand_over(answer, figures);
+            }
+        }
     }
     BAD_LENGTH
 }

@@ -9,6 +9,7 @@ mod probed; // probed.rt: the car of a portable probe
 mod running; // running.rt: the running train
 
 pub use alone::work_out;
+pub use probed::enter_probed;
 pub use probed::work_out_probe;
 pub use probed::work_probed;
 

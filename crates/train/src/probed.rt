@@ -59,60 +59,63 @@ pub fn work_out_probe(
     }
 }
 
-impl Train {
-    // Enters a probe's car whose set is in tenths.
-    fn enter_probed(
-        self,
-        d: Directory,
-        levels: &[u32; PLACES],
-        capacities: &[u32; PLACES],
-        p: Probed,
-    ) -> Step
-        ensures { λ r. ⌜
-            ((c : ProbeCar) → Stands p c →
-            (carTold (r .answer) ≡ enterAnswer (tablesOf d (now (levels .entry)) (now (capacities .entry))) (trainTold self) (probed c))
-            × (trainTold (r .train) ≡ enterTrain (tablesOf d (now (levels .entry)) (now (capacities .entry))) (trainTold self) (probed c)))
-            ⌝ }
-    {
-        let sums = self.sums;
-        let held = self.held;
-        let mut numbers = self.numbers;
-        let mut grades = self.grades;
-        let mut grosses = self.grosses;
-        let mut nets = self.nets;
-        let tally = Tally { sums, held };
-        let refusal = crate::running::bar_refusal(
-            d,
-            levels,
-            capacities,
-            tally,
-            &numbers,
-            &grades,
-            &grosses,
-            &nets,
-        );
-        if refusal != 0 {
-            return Step {
-                answer: CarAnswer::Refused(refusal),
-                train: self,
-            };
-        }
-        let entered = entering::enter_probed_on(
-            held,
-            &mut numbers,
-            &mut grades,
-            &mut grosses,
-            &mut nets,
-            d,
-            levels,
-            capacities,
-            p,
-        );
-        let answer = entered.answer;
-        let train = crate::running::with_sums(entered.held, numbers, grades, grosses, nets);
-        Step { answer, train }
+// Enters a probe's car whose set is in tenths.
+pub fn enter_probed(
+    train: Train,
+    d: Directory,
+    levels: &[u32; PLACES],
+    capacities: &[u32; PLACES],
+    p: Probed,
+) -> Step
+    ensures { λ r. ⌜
+        ((c : ProbeCar) → Stands p c →
+        (carTold (r .answer) ≡ enterAnswer (tablesOf d (now (levels .entry)) (now (capacities .entry))) (trainTold train) (probed c))
+        × (trainTold (r .train) ≡ enterTrain (tablesOf d (now (levels .entry)) (now (capacities .entry))) (trainTold train) (probed c)))
+        ⌝ }
+{
+    let sums = train.sums;
+    let held = train.held;
+    let mut numbers = train.numbers;
+    let mut grades = train.grades;
+    let mut grosses = train.grosses;
+    let mut nets = train.nets;
+    let tally = Tally { sums, held };
+    let refusal = crate::running::bar_refusal(
+        d,
+        levels,
+        capacities,
+        tally,
+        &numbers,
+        &grades,
+        &grosses,
+        &nets,
+    );
+    if refusal != 0 {
+        return Step {
+            answer: CarAnswer::Refused(refusal),
+            train,
+        };
     }
+    let entered = entering::enter_probed_on(
+        held,
+        &mut numbers,
+        &mut grades,
+        &mut grosses,
+        &mut nets,
+        d,
+        levels,
+        capacities,
+        p,
+    );
+    let answer = entered.answer;
+    let next = crate::running::with_sums(entered.held, numbers, grades, grosses, nets);
+    Step {
+        answer,
+        train: next,
+    }
+}
 
+impl Train {
     // Enters a probe's car with its tables: its answer, and the train to hand in next, which 31 and 32 leave as it came.
     pub fn enter_probe(
         self,
@@ -137,7 +140,7 @@ impl Train {
             },
             ConvertedSet::Tenths(t) => {
                 let p = working::probed_of(car, t);
-                self.enter_probed(d, levels, capacities, p)
+                enter_probed(self, d, levels, capacities, p)
             }
         }
     }

@@ -205,5 +205,10 @@ train-handed {right} {t} {lent} {left} n low e w again = record {
   unchanged = λ s. w ∙ ap trainNumbers s ∙ train-same lent n low;
 }
 
+-- a train that is the one that was lent, and is not written
+pub train-left : {right : Bool} {t : Train} {lent : List ℕ} → length lent ≡ trainPlaces → ((k : ℕ) → getD lent k 0 < half)
+    → right ≡ true → trainOf lent ≡ t → TrainHanded right t lent lent
+train-left {lent} n low e is = train-handed n low e (sym (train-same lent n low) ∙ ap trainNumbers is) is
+
 pub train-kept : {right : Bool} {t : Train} {lent : List ℕ} → right ≡ false → TrainHanded right t lent lent
 train-kept {right} {t} {lent} e = record { numbers = kept _ _ e; again = λ r. cc; unchanged = λ s. refl }

@@ -1,22 +1,26 @@
--- `export_probe::rack_train_enter_probe` meets its contract: the train, the tables and the car that were copied are those that were lent.
+-- `export_probe::rack_train_enter_probe` meets its contract: 31 and 32 of the set, or the car entered in the train and on the tables that were lent.
 use Prim.Native.Nat.{ℕ, _<_}
-use mathlib.Core.Path.{_≡_, sym, ap, _∙_}
+use mathlib.Core.Path.{_≡_, sym, ap, ap₂, _∙_}
+use mathlib.Core.Bool.{true}
 use mathlib.Core.List.{List}
 use native.Mathlib.Omega.{arith}
 use lib.ListN.{getD}
 use borrow.Author.Tests.{eq-eqb, ne-eqb}
 use borrow.Author.Needs.{needs}
 use denote.Ref.{now}
+use Rattle.probe_spec.proofs.Answers.{set-refused, set-shown}
 use Rattle.table.specs.Table.{Table}
 use Rattle.car.specs.declared.ProbeCar.{ProbeCar}
-use Rattle.car.specs.Car.{Intake, probed}
+use Rattle.car.specs.Car.{probeCarOf, probed}
+use Rattle.car.specs.Inner.{Stands}
 use Rattle.consist.specs.Train.{Train, enterAnswer, enterTrain}
+use Rattle.consist.proofs.Entering.{before-away}
 use Rattle.marshalling.specs.Handed.{figuresLeft}
-use Rattle.marshalling.specs.Layout.{probeFields}
-use Rattle.trainslice.specs.Layout.{half, trainNumbers}
+use Rattle.marshalling.specs.Layout.{tablesLent, setOf, probeFields}
 use Rattle.marshalling.proofs.Handed.{handed, handed-as, right-sized, wrong-sized}
 use Rattle.marshalling.proofs.Lengths.{CarRight, car-right, tables-copied}
-use Rattle.trainslice.proofs.Slice.{train-handed, train-kept}
+use Rattle.trainslice.specs.Layout.{half, trainOf, trainNumbers, trainSized}
+use Rattle.trainslice.proofs.Slice.{train-handed, train-left, train-kept}
 use Rattle.trainslice.proofs.Lengths.{train-wrong, train-sized}
 use Rattle.export_probe.proofs.cars.rack_train_enter_probe.Statement.{statement}
 use Rattle.export_probe.proofs.cars.rack_train_enter_probe.Tie as tie
@@ -35,8 +39,31 @@ right : (c : tie.Then2)
     (now (start c .args .figures))
 right c = car-right _ _ _ _ _ _ _ (sym (c .before .car-fits .ensures) ∙ c .if2 .taken)
 
-same : {A : Type 0} (on : List Table → Train → Intake → A) {ts ts' : List Table} {t t' : Train} {car car' : ProbeCar} → ts ≡ ts' → t ≡ t' → car ≡ car' → on ts t (probed car) ≡ on ts' t' (probed car')
-same on ts t car = cc
+-- the tables, the train and the car that are handed in
+abbrev all : tie.Start → List Table
+all s = tablesLent (s .args .count) (now (s .args .types)) (now (s .args .rows)) (now (s .args .levels)) (now (s .args .capacities))
+
+abbrev running : tie.Start → Train
+running s = trainOf (now (s .args .train))
+
+abbrev theCar : tie.Start → ProbeCar
+theCar s = probeCarOf (now (s .args .car)) (setOf (s .args .level) (s .args .temperature) (s .args .density))
+
+fit : (c : tie.Then2) → let a = start c .args in
+    trainSized probeFields (now (a .train)) (now (a .types)) (now (a .rows)) (now (a .levels)) (now (a .capacities)) (now (a .car)) (now (a .figures)) ≡ true
+fit c = train-sized _ _ _ _ _ _ _ _ (eq-eqb _ _ (c .before .before .before .if1 .left)) (sym (c .before .car-fits .ensures) ∙ c .if2 .taken)
+
+low : (c : tie.Then2) (i : ℕ) → getD (now (start c .args .train)) i 0 < half
+low c i = omega (arith, c .before .before .before .before .before .before .before .before .before .before .slice-known .given i)
+
+-- the set comes to tenths, and these are what is measured of the car
+stands : (p : tie.After-probed-of) → let c = p .before .before .before .before .before .before in Stands (p .probed-of .result) (theCar (start c))
+stands p =
+    let f = p .before in
+    let t = f .before .before in
+    let k = t .before .before in
+    let s = start (k .before) in
+    rw (f .probe-car-of .ensures) at (p .probed-of .ensures) (set-shown (setOf (s .args .level) (s .args .temperature) (s .args .density)) (k .set-tenths .ensures) (t .t .given .1))
 
 returns : tie.Need-returns
 returns c =
@@ -46,60 +73,86 @@ returns c =
 car-fits-requires : tie.Need-car-fits-requires
 car-fits-requires c κs = search needs
 
-directory-of-requires : tie.Need-directory-of-requires
-directory-of-requires c κs = (right c .2 .0, right c .2 .1)
+set-tenths-requires : tie.Need-set-tenths-requires
+set-tenths-requires c κs = search needs
 
-all-places-requires : tie.Need-all-places-requires
-all-places-requires c κs = right (c .before) .2 .2
-
-all-places-requires-2 : tie.Need-all-places-requires-2
-all-places-requires-2 c κs = right (c .before .before) .2 .3
-
-probe-car-of-requires : tie.Need-probe-car-of-requires
-probe-car-of-requires c κs = right (c .before .before .before) .0
-
-train-of-requires : tie.Need-train-of-requires
-train-of-requires c κs = search needs
-
-enter-probe-requires : tie.Need-enter-probe-requires
-enter-probe-requires c κs = search needs
-
-write-train-requires : tie.Need-write-train-requires
-write-train-requires c κs = c .before .before .before .before .before .before .before .before .before .before .before .before .before .before .if1 .left
-
-hand-over-requires : tie.Need-hand-over-requires
-hand-over-requires c κs = right (c .before .before .before .before .before .before .before .before .before .before .before .before .before .before .before) .1
+enum-known-number : tie.Need-enum-known-number
+enum-known-number c = search needs
 
 same-length : tie.Need-same-length
 same-length c = search needs
 
-same-length-2 : tie.Need-same-length-2
-same-length-2 c = search needs
-
 returns-2 : tie.Need-returns-2
 returns-2 c =
-    let h = c .before .before in
-    let w = h .before .before .before .before in
-    let e = w .before .before .before in
-    let r = e .before .before .before in
-    let p = r .before .before in
-    let q = p .before in
-    let k = q .before .before .before in
-    let ts = tables-copied (q .before .before .directory-of .ensures) (q .before .all-places .ensures) (q .all-places2 .ensures) in
-    let t = r .train-of .ensures in
-    let car = p .probe-car-of .ensures in
-    let n : (i : ℕ) → getD (now (start k .args .train)) i 0 < half = λ i. omega (arith, k .before .before .before .before .before .before .before .before .before .before .slice-known .given i) in
-    let fit = train-sized _ _ _ _ _ _ _ _ (eq-eqb _ _ (k .before .before .before .if1 .left)) (sym (k .before .car-fits .ensures) ∙ k .if2 .taken) in
-    let next = e .enter-probe .ensures .1 ∙ same enterTrain ts t car in (
-      handed-as (h .hand-over .ensures) (e .enter-probe .ensures .0 ∙ same enterAnswer ts t car ∙ right-sized _ fit),
-      train-handed (k .before .before .before .if1 .left) n fit (w .write-train .ensures .0 ∙ ap trainNumbers next) (w .write-train .ensures .1 ∙ next),
-    )
+    let n = c .before in
+    let k = n .before .before in
+    let t = k .before in
+    let s = start t in
+    let away = before-away (all s) (running s) (probed (theCar s)) (set-refused (theCar s .set) (k .set-tenths .ensures) (n .number .given .1)) in
+    (handed figuresLeft _ (away .0 ∙ right-sized _ (fit t)), train-left (t .before .before .before .if1 .left) (low t) (fit t) (away .1))
+
+enum-known-t : tie.Need-enum-known-t
+enum-known-t c = search needs
+
+probe-car-of-requires : tie.Need-probe-car-of-requires
+probe-car-of-requires c κs = right (c .before .before .before .before) .0
+
+probed-of-requires : tie.Need-probed-of-requires
+probed-of-requires c κs = search needs
+
+directory-of-requires : tie.Need-directory-of-requires
+directory-of-requires c κs = let r = right (c .before .before .before .before .before .before) in (r .2 .0, r .2 .1)
+
+all-places-requires : tie.Need-all-places-requires
+all-places-requires c κs = right (c .before .before .before .before .before .before .before) .2 .2
+
+all-places-requires-2 : tie.Need-all-places-requires-2
+all-places-requires-2 c κs = right (c .before .before .before .before .before .before .before .before) .2 .3
+
+-- behind the tables and the train that were copied
+abbrev test : tie.After-all-places2 → tie.Then2
+test q = q .before .before .before .before .before .before .before .before .before
+
+train-of-requires : tie.Need-train-of-requires
+train-of-requires c κs = test (c .before) .before .before .before .if1 .left
+
+enter-probed-requires : tie.Need-enter-probed-requires
+enter-probed-requires c κs = search needs
+
+write-train-requires : tie.Need-write-train-requires
+write-train-requires c κs = test (c .before .before .before .before .before .before .before) .before .before .before .if1 .left
+
+hand-over-requires : tie.Need-hand-over-requires
+hand-over-requires c κs = right (test (c .before .before .before .before .before .before .before .before .before .before .before)) .1
+
+same-length-2 : tie.Need-same-length-2
+same-length-2 c = search needs
 
 same-length-3 : tie.Need-same-length-3
 same-length-3 c = search needs
 
 returns-3 : tie.Need-returns-3
 returns-3 c =
+    let h = c .before .before in
+    let w = h .before .before .before .before in
+    let e = w .before .before .before in
+    let r = e .before .before .before in
+    let q = r .before .before in
+    let p = q .before .before .before in
+    let t = test q in
+    let s = start t in
+    let ts = tables-copied (q .before .before .directory-of .ensures) (q .before .all-places .ensures) (q .all-places2 .ensures) in
+    let k = e .enter-probed .ensures (theCar s) (stands p) in
+    let next = k .1 ∙ ap₂ (λ (us : List Table) (u : Train). enterTrain us u (probed (theCar s))) ts (r .train-of .ensures) in (
+      handed-as (h .hand-over .ensures) (k .0 ∙ ap₂ (λ (us : List Table) (u : Train). enterAnswer us u (probed (theCar s))) ts (r .train-of .ensures) ∙ right-sized _ (fit t)),
+      train-handed (t .before .before .before .if1 .left) (low t) (fit t) (w .write-train .ensures .0 ∙ ap trainNumbers next) (w .write-train .ensures .1 ∙ next),
+    )
+
+same-length-4 : tie.Need-same-length-4
+same-length-4 c = search needs
+
+returns-4 : tie.Need-returns-4
+returns-4 c =
     let w = train-sized _ _ _ _ _ _ _ _ (eq-eqb _ _ (c .before .before .before .if1 .left)) (sym (c .before .car-fits .ensures) ∙ c .if2 .left) in
     (handed figuresLeft _ (wrong-sized _ w), train-kept w)
 
@@ -109,16 +162,22 @@ rack-train-enter-probe-spec =
     (tie.spec
     returns
     car-fits-requires
+    set-tenths-requires
+    enum-known-number
+    same-length
+    returns-2
+    enum-known-t
+    probe-car-of-requires
+    probed-of-requires
     directory-of-requires
     all-places-requires
     all-places-requires-2
-    probe-car-of-requires
     train-of-requires
-    enter-probe-requires
+    enter-probed-requires
     write-train-requires
     hand-over-requires
-    same-length
     same-length-2
-    returns-2
     same-length-3
-    returns-3)
+    returns-3
+    same-length-4
+    returns-4)

@@ -1,14 +1,17 @@
--- `export_probe::rack_work_out_probe` meets its contract: the tables and the car that were copied are those that were lent.
-use mathlib.Core.Path.{sym, ap, _∙_}
+-- `export_probe::rack_work_out_probe` meets its contract: 31 and 32 of the set, or the answer on the tables that were lent.
+use mathlib.Core.Path.{_≡_, sym, ap, _∙_}
 use mathlib.Core.List.{List}
 use borrow.Author.Needs.{needs}
 use denote.Ref.{now}
+use Rattle.base.specs.Answer.{Answer}
+use Rattle.probe_spec.proofs.Answers.{set-refused, set-shown}
 use Rattle.table.specs.Table.{Table}
-use Rattle.table.specs.Layout.{tablesOf}
 use Rattle.car.specs.declared.ProbeCar.{ProbeCar}
 use Rattle.car.specs.Car.{probeCarOf, probed, aloneAnswer}
-use Rattle.marshalling.specs.Handed.{figuresLeft}
-use Rattle.marshalling.specs.Layout.{setOf, probeFields}
+use Rattle.car.specs.Inner.{Stands}
+use Rattle.car.proofs.Answers.{alone-before}
+use Rattle.marshalling.specs.Handed.{figuresLeft, sized}
+use Rattle.marshalling.specs.Layout.{tablesLent, setOf, probeFields, carSized}
 use Rattle.marshalling.proofs.Handed.{handed, handed-as, right-sized, wrong-sized}
 use Rattle.marshalling.proofs.Lengths.{CarRight, car-right, tables-copied}
 use Rattle.export_probe.proofs.cars.rack_work_out_probe.Statement.{statement}
@@ -28,63 +31,110 @@ right : (c : tie.Then1)
     (now (start c .args .figures))
 right c = car-right _ _ _ _ _ _ _ (sym (c .before .car-fits .ensures) ∙ c .if1 .taken)
 
+-- the tables and the car that are handed in
+abbrev all : tie.Start → List Table
+all s = tablesLent (s .args .count) (now (s .args .types)) (now (s .args .rows)) (now (s .args .levels)) (now (s .args .capacities))
+
+abbrev theCar : tie.Start → ProbeCar
+theCar s = probeCarOf (now (s .args .car)) (setOf (s .args .level) (s .args .temperature) (s .args .density))
+
+fit : (c : tie.Then1) (a : Answer) → let s = start c .args in
+    a ≡ sized (carSized probeFields (now (s .types)) (now (s .rows)) (now (s .levels)) (now (s .capacities)) (now (s .car)) (now (s .figures))) a
+fit c a = right-sized a (sym (c .before .car-fits .ensures) ∙ c .if1 .taken)
+
+-- the set comes to tenths, and these are what is measured of the car
+stands : (p : tie.After-probed-of) → let c = p .before .before .before .before .before .before in Stands (p .probed-of .result) (theCar (start c))
+stands p =
+    let f = p .before in
+    let t = f .before .before in
+    let k = t .before .before in
+    let s = start (k .before) in
+    rw (f .probe-car-of .ensures) at (p .probed-of .ensures) (set-shown (setOf (s .args .level) (s .args .temperature) (s .args .density)) (k .set-tenths .ensures) (t .t .given .1))
+
 car-fits-requires : tie.Need-car-fits-requires
 car-fits-requires c κs = search needs
 
-directory-of-requires : tie.Need-directory-of-requires
-directory-of-requires c κs = (right c .2 .0, right c .2 .1)
+set-tenths-requires : tie.Need-set-tenths-requires
+set-tenths-requires c κs = search needs
 
-all-places-requires : tie.Need-all-places-requires
-all-places-requires c κs = right (c .before) .2 .2
-
-all-places-requires-2 : tie.Need-all-places-requires-2
-all-places-requires-2 c κs = right (c .before .before) .2 .3
-
-probe-car-of-requires : tie.Need-probe-car-of-requires
-probe-car-of-requires c κs = right (c .before .before .before) .0
-
-work-out-probe-requires : tie.Need-work-out-probe-requires
-work-out-probe-requires c κs = search needs
-
-hand-over-requires : tie.Need-hand-over-requires
-hand-over-requires c κs = right (c .before .before .before .before .before .before .before .before) .1
+enum-known-number : tie.Need-enum-known-number
+enum-known-number c = search needs
 
 same-length : tie.Need-same-length
 same-length c = search needs
 
 returns : tie.Need-returns
 returns c =
-    let h = c .before .before in
-    let w = h .before .before in
-    let p = w .before .before .before in
-    let q = p .before in
-    let k = q .before .before .before in
-    let a = start k .args in
-    handed-as (h .hand-over .ensures)
-    (w .work-out-probe .ensures .0
-    ∙ ap (λ (x : ProbeCar). aloneAnswer (tablesOf (q .before .before .directory-of .result) (q .before .all-places .result) (q .all-places2 .result)) (probed x)) (p .probe-car-of .ensures)
-    ∙ ap (λ (ts : List Table). aloneAnswer ts (probed (probeCarOf (now (a .car)) (setOf (a .level) (a .temperature) (a .density)))))
-    (tables-copied (q .before .before .directory-of .ensures) (q .before .all-places .ensures) (q .all-places2 .ensures))
-    ∙ right-sized _ (sym (k .before .car-fits .ensures) ∙ k .if1 .taken))
+    let n = c .before in
+    let k = n .before .before in
+    let t = k .before in
+    let s = start t in
+    handed figuresLeft _ (alone-before (all s) (probed (theCar s)) (set-refused (theCar s .set) (k .set-tenths .ensures) (n .number .given .1)) ∙ fit t _)
+
+enum-known-t : tie.Need-enum-known-t
+enum-known-t c = search needs
+
+probe-car-of-requires : tie.Need-probe-car-of-requires
+probe-car-of-requires c κs = right (c .before .before .before .before) .0
+
+probed-of-requires : tie.Need-probed-of-requires
+probed-of-requires c κs = search needs
+
+directory-of-requires : tie.Need-directory-of-requires
+directory-of-requires c κs = let r = right (c .before .before .before .before .before .before) in (r .2 .0, r .2 .1)
+
+all-places-requires : tie.Need-all-places-requires
+all-places-requires c κs = right (c .before .before .before .before .before .before .before) .2 .2
+
+all-places-requires-2 : tie.Need-all-places-requires-2
+all-places-requires-2 c κs = right (c .before .before .before .before .before .before .before .before) .2 .3
+
+work-probed-requires : tie.Need-work-probed-requires
+work-probed-requires c κs = search needs
+
+hand-over-requires : tie.Need-hand-over-requires
+hand-over-requires c κs = right (c .before .before .before .before .before .before .before .before .before .before .before .before .before) .1
 
 same-length-2 : tie.Need-same-length-2
 same-length-2 c = search needs
 
 returns-2 : tie.Need-returns-2
-returns-2 c = handed figuresLeft _ (wrong-sized _ (sym (c .before .car-fits .ensures) ∙ c .if1 .left))
+returns-2 c =
+    let h = c .before .before in
+    let w = h .before .before in
+    let q = w .before .before .before in
+    let p = q .before .before .before in
+    let t = p .before .before .before .before .before .before in
+    let s = start t in
+    handed-as (h .hand-over .ensures)
+    (w .work-probed .ensures (theCar s) (stands p)
+    ∙ ap (λ (ts : List Table). aloneAnswer ts (probed (theCar s))) (tables-copied (q .before .before .directory-of .ensures) (q .before .all-places .ensures) (q .all-places2 .ensures))
+    ∙ fit t _)
+
+same-length-3 : tie.Need-same-length-3
+same-length-3 c = search needs
+
+returns-3 : tie.Need-returns-3
+returns-3 c = handed figuresLeft _ (wrong-sized _ (sym (c .before .car-fits .ensures) ∙ c .if1 .left))
 
 pub rack-work-out-probe-spec : {M : Type 1} → statement M
 rack-work-out-probe-spec =
     tie.close
     (tie.spec
     car-fits-requires
+    set-tenths-requires
+    enum-known-number
+    same-length
+    returns
+    enum-known-t
+    probe-car-of-requires
+    probed-of-requires
     directory-of-requires
     all-places-requires
     all-places-requires-2
-    probe-car-of-requires
-    work-out-probe-requires
+    work-probed-requires
     hand-over-requires
-    same-length
-    returns
     same-length-2
-    returns-2)
+    returns-2
+    same-length-3
+    returns-3)

@@ -1,4 +1,4 @@
--- `Train::enter_probed` meets its contract: 7, 8 and 9 first, then `enter_probed_on`.
+-- `train::enter_probed` meets its contract: 7, 8 and 9 first, then `enter_probed_on`.
 use mathlib.Core.Path.{_≡_, _∙_}
 use mathlib.Core.List.{List}
 use borrow.Author.Needs.{needs}
@@ -13,14 +13,14 @@ use Rattle.consist.specs.Inner.{Sixty, SoundTrain}
 use Rattle.consist.proofs.Entering.{barred-away, barred-not}
 use Rattle.consist.proofs.Rows.{rows-sound, rows-entered}
 use Rattle.train.specs.Told.{trainTold}
-use Rattle.train.proofs.Train.enter_probed.Statement.{statement}
-use Rattle.train.proofs.Train.enter_probed.Tie as tie
+use Rattle.train.proofs.probed.enter_probed.Statement.{statement}
+use Rattle.train.proofs.probed.enter_probed.Tie as tie
 
 all : tie.Start → List Table
 all s = tablesOf (s .args .d) (now (s .args .levels)) (now (s .args .capacities))
 
 abbrev told : tie.Start → Train
-told s = trainTold (s .args .self)
+told s = trainTold (s .args .train)
 
 sixty : (s : tie.Start) → Sixty (told s)
 sixty s = record { numbers = search needs; grades = search needs; grosses = search needs; nets = search needs }
@@ -43,14 +43,14 @@ returns c car h =
     barred-away (all s) (told s) (c .before .bar-refusal .ensures) (probed car) (h .none) (c .if1 .taken)
 
 abbrev tally : tie.Start → Tally
-tally s = record { sums = s .args .self .sums; held = s .args .self .held }
+tally s = record { sums = s .args .train .sums; held = s .args .train .held }
 
 enter-probed-on-requires : tie.Need-enter-probed-on-requires
 unfolding all
 enter-probed-on-requires c κs =
     let l = c .before .before .before .before in
     let s = start (l .before) in
-    let t = s .args .self in
+    let t = s .args .train in
     let k = rows-sound (tally s) (t .numbers) (t .grades) (t .grosses) (t .nets) (sound l .1) (sixty s) in
     (k .0, k .1, record { accepted = sound l .0 })
 
@@ -63,7 +63,7 @@ returns-2 c car h =
     let e = c .before in
     let l = e .before .before .before .before .before in
     let s = start (l .before) in
-    let t = s .args .self in
+    let t = s .args .train in
     let k = rows-entered (tally s) (t .numbers) (t .grades) (t .grosses) (t .nets) (sound l .1) (all s) (probed car) (e .enter-probed-on .ensures .0 car h) in
     (k .0, c .with-sums .ensures ∙ k .1)
 
