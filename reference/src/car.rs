@@ -1,8 +1,11 @@
 //! One car: its fields, the refusals 10, 12 to 21 and 23, and its six figures.
+//!
+//! What is tested and worked out behind the readings stands once, in `Measured`, for a dipped car
+//! and for a probe's.
 
 use std::ops::RangeInclusive;
 
-use crate::level::{self, in_tenths};
+use crate::level::{in_tenths, Taken};
 use crate::mass;
 use crate::refusal::{ensure, Refusal};
 use crate::table::Tables;
@@ -114,24 +117,73 @@ pub struct Figures {
     pub net: u32,
 }
 
+/// A car as it is worked out, be it dipped or a probe's.
+#[derive(Clone, Copy, Debug)]
+pub(crate) struct Measured {
+    pub(crate) number: u32,
+    pub(crate) car_type: u32,
+    pub(crate) grade: u32,
+    pub(crate) stick: u32,
+    pub(crate) level: Taken,
+    /// Water level, in mm.
+    pub(crate) water_level: u32,
+    /// Oil temperature, in 0.1 °C.
+    pub(crate) temperature: u32,
+    /// Density at 15 °C, in 0.1 kg/m³.
+    pub(crate) density: u32,
+    /// Water and impurities, in 0.01 %.
+    pub(crate) water: u32,
+    pub(crate) impurities: u32,
+}
+
+impl From<&Car> for Measured {
+    fn from(car: &Car) -> Self {
+        Self {
+            number: car.number,
+            car_type: car.car_type,
+            grade: car.grade,
+            stick: car.stick,
+            level: Taken::Dipped { given: car.given, readings: car.readings },
+            water_level: car.water_level,
+            temperature: car.temperature,
+            density: car.density,
+            water: car.water,
+            impurities: car.impurities,
+        }
+    }
+}
+
 impl Car {
     /// The car worked out alone: refusals 10, 12 to 21 and 23, then its figures.
     pub fn work_out(&self, tables: &Tables) -> Result<Figures, Refusal> {
+        Measured::from(self).work_out(tables)
+    }
+
+    /// Refusal 10.
+    pub fn check_number(&self) -> Result<(), Refusal> {
+        Measured::from(self).check_number()
+    }
+}
+
+impl Measured {
+    /// The car worked out alone: refusals 10, 12, 13, those of its level, and 16 to 21, then its
+    /// figures.
+    pub(crate) fn work_out(&self, tables: &Tables) -> Result<Figures, Refusal> {
         self.check_number()?;
         self.figures(tables)
     }
 
     /// Refusal 10.
-    pub fn check_number(&self) -> Result<(), Refusal> {
+    pub(crate) fn check_number(&self) -> Result<(), Refusal> {
         ensure(NUMBERS.contains(&self.number), Refusal::CarNumber)
     }
 
-    /// Refusals 12 to 21 and 23, then the figures.
-    pub fn figures(&self, tables: &Tables) -> Result<Figures, Refusal> {
+    /// Refusals 12, 13, those of its level, and 16 to 21, then the figures.
+    pub(crate) fn figures(&self, tables: &Tables) -> Result<Figures, Refusal> {
         let table = tables.find(self.car_type).ok_or(Refusal::Type)?;
         let grade = self.grade().ok_or(Refusal::GradeOrStick)?;
         let stick = Stick::numbered(self.stick).ok_or(Refusal::GradeOrStick)?;
-        let level = level::mean(self.given, self.readings)?;
+        let level = self.level.mean()?;
         ensure(level <= in_tenths(table.last_level()), Refusal::Level)?;
         ensure(in_tenths(self.water_level) < level, Refusal::WaterLevel)?;
         ensure(grade.temperatures.contains(&self.temperature), Refusal::Temperature)?;

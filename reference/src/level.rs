@@ -1,4 +1,4 @@
-//! Levels: the mean of the readings (step 1) and the tape allowance.
+//! Levels: the mean of the readings (step 1), a probe's level in its stead, and the tape allowance.
 //!
 //! Readings are in mm. A mean level, and a level that is handed over by itself, is in 0.1 mm.
 
@@ -30,6 +30,26 @@ pub fn in_tenths(level: u32) -> u64 {
     10 * u64::from(level)
 }
 
+/// How the level of a car was taken.
+#[derive(Clone, Copy, Debug)]
+pub(crate) enum Taken {
+    /// So many readings of the four, in mm.
+    Dipped { given: u32, readings: [u32; 4] },
+    /// By a probe, in 0.1 mm.
+    Probed(u32),
+}
+
+impl Taken {
+    /// The mean level in 0.1 mm, for which a probe's level stands: refusals 14, 15 and 23 where it was
+    /// dipped, and 16 for 0.
+    pub(crate) fn mean(self) -> Result<u64, Refusal> {
+        match self {
+            Self::Dipped { given, readings } => mean(given, readings),
+            Self::Probed(level) => unless_zero(u64::from(level)),
+        }
+    }
+}
+
 /// The mean level in 0.1 mm, from two or four readings; the places of readings not given hold 0:
 /// refusals 14, 15, 23 and, for a mean of 0, 16.
 pub fn mean(given: u32, readings: [u32; 4]) -> Result<u64, Refusal> {
@@ -42,6 +62,11 @@ pub fn mean(given: u32, readings: [u32; 4]) -> Result<u64, Refusal> {
         4 => mean_of(&three_together(readings)?),
         _ => return Err(Refusal::ReadingCount),
     };
+    unless_zero(mean)
+}
+
+/// A mean level, unless it is 0: refusal 16.
+fn unless_zero(mean: u64) -> Result<u64, Refusal> {
     if mean == 0 {
         return Err(Refusal::Level);
     }

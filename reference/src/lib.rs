@@ -14,6 +14,7 @@ pub mod listing;
 pub mod mass;
 pub mod operations;
 pub mod permitted;
+pub mod probe;
 pub mod refusal;
 pub mod rounding;
 pub mod sheet;

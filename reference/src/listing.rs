@@ -1,6 +1,6 @@
 //! The listing: the answer to a whole sheet, and refusal 1.
 
-use crate::car::{Car, Figures, GRADES};
+use crate::car::{Car, Figures, Measured, GRADES};
 use crate::line;
 use crate::refusal::Refusal;
 use crate::sheet::{Event, Rejection, Sheet, CAR_LINES, STRIKE_LINES};
@@ -67,7 +67,7 @@ impl Listing<'_> {
     }
 
     fn write_car(&mut self, train: &mut Train, car: &Car, tables: &Tables) {
-        match train.enter_sound(car, tables) {
+        match train.enter_sound(&Measured::from(car), tables) {
             Ok(Figures { number, level, volume, volume_at_15, gross, net }) => {
                 self.write(b'A', [number, level, volume, volume_at_15, gross, net]);
             }

@@ -2,7 +2,8 @@
 //!
 //! Errors and terms are in 0.0001 % where nothing else is said.
 
-use crate::car::{Car, Figures};
+use crate::car::{Car, Figures, Measured};
+use crate::probe::ProbeCar;
 use crate::refusal::{ensure, Refusal};
 use crate::rounding::nearest;
 use crate::table::{Row, Tables};
@@ -89,6 +90,25 @@ pub struct PermittedError {
 
 /// A car worked out alone, with its permitted error: refusals 10, 12 to 21 and 23, then 24 and 25.
 pub fn work_out(car: &Car, tables: &Tables, errors: &Errors) -> Result<PermittedError, Refusal> {
+    of(&Measured::from(car), tables, errors)
+}
+
+/// A probe's car worked out alone, with its permitted error: refusals 31 and 32, then 10, 12, 13 and 16
+/// to 21, then 24 and 25.
+pub fn work_out_probe(
+    car: &ProbeCar,
+    tables: &Tables,
+    errors: &Errors,
+) -> Result<PermittedError, Refusal> {
+    of(&car.measured()?, tables, errors)
+}
+
+/// The figures and the permitted error of a car, be it dipped or a probe's.
+pub(crate) fn of(
+    car: &Measured,
+    tables: &Tables,
+    errors: &Errors,
+) -> Result<PermittedError, Refusal> {
     let figures = car.work_out(tables)?;
     errors.check()?;
     let table = tables.find(car.car_type).ok_or(Refusal::Type)?;

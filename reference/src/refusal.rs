@@ -1,7 +1,7 @@
 //! Why a sheet or a car is turned away, with the numbers that the listing shows.
 
 /// A refusal, numbered as on the rack card. They are tested by rising number, but 23 directly after
-/// 15, and 30 directly after 9.
+/// 15, 30 directly after 9, and 31 and 32 before all others of a car.
 #[derive(Clone, Copy, Debug, PartialEq, Eq)]
 #[repr(u32)]
 pub enum Refusal {
@@ -64,6 +64,10 @@ pub enum Refusal {
     StickOrTapeLevel = 29,
     /// The train does not hold the number that is to be struck.
     NotHeld = 30,
+    /// A number of a probe is negative, infinite or not a number.
+    ProbeNumber = 31,
+    /// The tenths of a probe's number are more than eight digits hold.
+    ProbeTenths = 32,
 }
 
 impl Refusal {

@@ -1,7 +1,8 @@
 //! The running train: the cars that it holds, and the count and total masses of the accepted ones,
 //! of all grades and of each.
 
-use crate::car::{Car, Figures, GRADES};
+use crate::car::{Car, Figures, Measured, GRADES};
+use crate::probe::ProbeCar;
 use crate::refusal::{ensure, Refusal};
 use crate::table::Tables;
 
@@ -75,6 +76,21 @@ impl Train {
     /// Works out a car and enters it: its number if it can be told from those held, its grade and
     /// masses if it is accepted. Refusals 9 to 21 and 23.
     pub fn enter(&mut self, car: &Car, tables: &Tables) -> Result<Figures, Refusal> {
+        self.enter_measured(&Measured::from(car), tables)
+    }
+
+    /// Works out a probe's car and enters it in the same way: refusals 31 and 32, which leave the train
+    /// as it is, then 9 to 13 and 16 to 21.
+    pub fn enter_probe(&mut self, car: &ProbeCar, tables: &Tables) -> Result<Figures, Refusal> {
+        self.enter_measured(&car.measured()?, tables)
+    }
+
+    /// Enters a car, be it dipped or a probe's.
+    pub(crate) fn enter_measured(
+        &mut self,
+        car: &Measured,
+        tables: &Tables,
+    ) -> Result<Figures, Refusal> {
         ensure(self.is_sound(), Refusal::Count)?;
         self.enter_sound(car, tables)
     }
@@ -86,7 +102,11 @@ impl Train {
     }
 
     /// Enters a car where the train is known to be sound. Of refusal 9, sixty numbers are still tested.
-    pub(crate) fn enter_sound(&mut self, car: &Car, tables: &Tables) -> Result<Figures, Refusal> {
+    pub(crate) fn enter_sound(
+        &mut self,
+        car: &Measured,
+        tables: &Tables,
+    ) -> Result<Figures, Refusal> {
         ensure(self.held < CARS, Refusal::Count)?;
         car.check_number()?;
         ensure(self.place_of(car.number).is_none(), Refusal::CarTwice)?;

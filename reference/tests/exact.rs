@@ -1,6 +1,7 @@
 //! Gross and net masses against the exact value, in whole numbers of any length.
 
 use reference::car::{Car, Figures, FIELDS};
+use reference::probe::{ProbeCar, Set};
 use reference::sheet::{Event, Sheet};
 use reference::sheets;
 use reference::table::{Row, Tables};
@@ -258,23 +259,61 @@ fn the_first_car_of_the_paper() {
     }
 }
 
+/// A table with these rows, of type 1.
+fn tables_of(rows: &[(u64, u64)]) -> Tables {
+    let mut tables = Tables::new();
+    tables.begin(1, rows.len() as u32).unwrap();
+    for &(level, capacity) in rows {
+        tables.add(Row { level: level as u32, capacity: capacity as u32 }).unwrap();
+    }
+    tables
+}
+
 /// The paper's car at 1500.5 mm holds 35,015 dm³ and 32,242.70 kg; at 1500 mm it would be 32,228.89 kg, at
 /// 1501 mm 32,256.52 kg.
 #[test]
 fn the_exact_value_starts_from_tenths() {
     let rows = [(0, 0), (1000, 20_000), (2000, 50_000), (3000, 70_000)];
-    let mut tables = Tables::new();
-    tables.begin(1, 4).unwrap();
-    for (level, capacity) in rows {
-        tables.add(Row { level: level as u32, capacity: capacity as u32 }).unwrap();
-    }
     let car = Car::from([1, 1, 3, 1, 2, 1500, 1501, 0, 0, 0, 600, 9500, 50, 20]);
-    let figures = car.work_out(&tables).unwrap();
+    let figures = car.work_out(&tables_of(&rows)).unwrap();
     assert_eq!((figures.level, figures.volume), (15_005, 3_501_500));
     for powers in [7, 8] {
         let gross = exact_gross(&car, &figures, &rows, powers);
         assert!(gross.is_near(32_243, 55) && gross.is_near(figures.gross.into(), 55));
         assert!(!gross.is_near(32_229, 110) && !gross.is_near(32_257, 110));
+    }
+}
+
+/// A probe's masses against the exact value from its tenths: levels over two metres, temperatures and
+/// densities over their ranges.
+#[test]
+fn a_probe_s_masses_stay_near_the_exact_value_of_its_tenths() {
+    let rows = [(0, 0), (7, 3), (1000, 20_000), (2000, 50_000), (3000, 199_999)];
+    let tables = tables_of(&rows);
+    let nearest = |number: f32| (10.0 * f64::from(number)).round() as u32;
+    for step in 0..3_000_u16 {
+        let along = |low: f32, high: f32, by: u16| {
+            let part = f32::from(step.wrapping_mul(by) % 3_000) / 3_000.0;
+            low + part * (high - low)
+        };
+        let [level, temperature, density] = [
+            along(1_000.04, 3_000.04, 1),
+            along(39.96, 90.04, 1_237),
+            along(899.96, 990.03, 2_011),
+        ];
+        let set = Set { level, temperature, density };
+        let stick = 1 + u32::from(step % 2);
+        let car = ProbeCar::new([1, 1, 4, stick, 999, 100, 37], set);
+        let figures = car.work_out(&tables).unwrap();
+        assert_eq!(figures.level, nearest(level));
+        let mut tenths = Car::from([1, 1, 4, stick, 0, 0, 0, 0, 0, 999, 0, 0, 100, 37]);
+        (tenths.temperature, tenths.density) = (nearest(temperature), nearest(density));
+        for powers in [7, 8] {
+            let gross = exact_gross(&tenths, &figures, &rows, powers);
+            assert!(gross.is_near(figures.gross.into(), 55), "gross of {set:?}");
+            let net = gross.by(9_863, 10_000);
+            assert!(net.is_near(figures.net.into(), 110), "net of {set:?}");
+        }
     }
 }
 

@@ -1,8 +1,9 @@
-//! Single operations, for a caller who has one line, some tables or some fields and no sheet.
+//! Single operations, for a caller who has one line, some tables, some fields or one car and no sheet.
 //!
-//! Each gives those refusals that test what it is handed, in the listed order. The mean level and
-//! the tape allowance stand in [`crate::level`], a laboratory's density in [`crate::laboratory`], the
-//! check of a stick in [`crate::stick`].
+//! Each gives those refusals that test what it is handed, in the listed order; 31 and 32 of a probe's car
+//! come before 7 and 8 of its tables. The mean level and the tape allowance stand in [`crate::level`], a
+//! laboratory's density in [`crate::laboratory`], the check of a stick in [`crate::stick`], a probe's
+//! readings and sets by themselves in [`crate::probe`].
 
 use std::sync::LazyLock;
 
@@ -11,6 +12,7 @@ use crate::field;
 use crate::level::in_tenths;
 use crate::line;
 use crate::permitted::{self, Errors, PermittedError};
+use crate::probe::ProbeCar;
 use crate::refusal::Refusal;
 use crate::table::{Row, Tables};
 use crate::thermal::{self, Density15, Density20};
@@ -203,6 +205,34 @@ pub fn permitted_error(
 /// A car entered in a train with the tables that are handed in with it: refusals 7 to 21 and 23.
 pub fn enter(train: &mut Train, handed_in: &[HandedIn], car: &Car) -> Result<Figures, Refusal> {
     train.enter(car, &check_tables(handed_in)?)
+}
+
+/// A probe's car worked out alone: refusals 31 and 32, then 7, 8, 10, 12, 13 and 16 to 21.
+pub fn work_out_probe(handed_in: &[HandedIn], car: &ProbeCar) -> Result<Figures, Refusal> {
+    let measured = car.measured()?;
+    measured.work_out(&check_tables(handed_in)?)
+}
+
+/// A probe's car worked out alone, with its permitted error: refusals 31 and 32, then 7, 8, 10, 12,
+/// 13, 16 to 21, 24 and 25.
+pub fn permitted_error_probe(
+    handed_in: &[HandedIn],
+    car: &ProbeCar,
+    errors: &Errors,
+) -> Result<PermittedError, Refusal> {
+    let measured = car.measured()?;
+    permitted::of(&measured, &check_tables(handed_in)?, errors)
+}
+
+/// A probe's car entered in a train with the tables that are handed in with it: refusals 31 and 32,
+/// then 7 to 13 and 16 to 21.
+pub fn enter_probe(
+    train: &mut Train,
+    handed_in: &[HandedIn],
+    car: &ProbeCar,
+) -> Result<Figures, Refusal> {
+    let measured = car.measured()?;
+    train.enter_measured(&measured, &check_tables(handed_in)?)
 }
 
 /// The car with a number struck from a train: refusals 9 and 30.
