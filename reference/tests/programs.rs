@@ -6,7 +6,9 @@ use std::path::{Path, PathBuf};
 use std::process::{Command, Stdio};
 
 use reference::conformance;
-use reference::conformance::vectors::{self, laboratory, permitted, stick, tape, train};
+use reference::conformance::vectors::{
+    self, laboratory, permitted, probe, probe_car, probe_error, probe_train, stick, tape, train,
+};
 use reference::{listing, sheets};
 
 fn rack(sheet: &[u8]) -> Vec<u8> {
@@ -68,14 +70,18 @@ fn make_conformance_writes_sheets_and_listings() {
     let made = Command::new(env!("CARGO_BIN_EXE_make_conformance")).arg(&folder).status().unwrap();
     assert!(made.success());
     let cases = conformance::cases();
-    // The sheets and listings, the index, the figures on the way and five files of vectors.
-    assert_eq!(fs::read_dir(&folder).unwrap().count(), 2 * cases.len() + 7);
+    // The sheets and listings, the index, the figures on the way and nine files of vectors.
+    assert_eq!(fs::read_dir(&folder).unwrap().count(), 2 * cases.len() + 11);
     let written = |name: &str| fs::read_to_string(folder.join(name)).unwrap();
     assert_eq!(written("permitted-error.vectors"), vectors::file::<permitted::Vector>());
     assert_eq!(written("laboratory-density.vectors"), vectors::file::<laboratory::Vector>());
     assert_eq!(written("tape-allowance.vectors"), vectors::file::<tape::Vector>());
     assert_eq!(written("stick-against-tape.vectors"), vectors::file::<stick::Vector>());
     assert_eq!(written("train-strike.vectors"), vectors::file::<train::Vector>());
+    assert_eq!(written("probe.vectors"), vectors::file::<probe::Vector>());
+    assert_eq!(written("probe-car.vectors"), vectors::file::<probe_car::Vector>());
+    assert_eq!(written("probe-train.vectors"), vectors::file::<probe_train::Vector>());
+    assert_eq!(written("probe-error.vectors"), vectors::file::<probe_error::Vector>());
     for case in cases {
         assert_eq!(fs::read(folder.join(format!("{}.sheet", case.name))).unwrap(), case.sheet);
         assert_eq!(fs::read(folder.join(format!("{}.listing", case.name))).unwrap(), case.listing);

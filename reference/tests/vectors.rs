@@ -5,8 +5,10 @@ use std::collections::HashSet;
 use std::fmt::Debug;
 
 use reference::conformance::vectors::{
-    all, expected, file, laboratory, permitted, read, stick, tape, train, Written,
+    all, expected, file, laboratory, permitted, probe, probe_car, probe_error, probe_train, read,
+    stick, tape, train, Written,
 };
+use reference::probe::Reading;
 use reference::sheet::Event;
 
 /// What holds of every file: the answers, the names, and that it is read as it was written.
@@ -40,6 +42,10 @@ fn files() {
     hold::<tape::Vector>(120);
     hold::<stick::Vector>(500);
     hold::<train::Vector>(400);
+    hold::<probe::Vector>(1_400);
+    hold::<probe_car::Vector>(450);
+    hold::<probe_train::Vector>(300);
+    hold::<probe_error::Vector>(150);
 }
 
 #[test]
@@ -119,5 +125,137 @@ fn every_refusal_of_a_car_stands_before_24_and_before_25() {
             let name = format!("order-{first:02}-before-{second}-");
             assert!(vectors.iter().any(|vector| vector.name.starts_with(&name)), "{name}");
         }
+    }
+}
+
+/// The floats of a reading or of a set.
+fn floats(asked: probe::Asked) -> Vec<f32> {
+    use Reading::{Density, Level, Temperature};
+    match asked {
+        probe::Asked::One(Level(float) | Temperature(float) | Density(float)) => vec![float],
+        probe::Asked::Three(set) => vec![set.level, set.temperature, set.density],
+    }
+}
+
+#[test]
+fn names_tell_the_outcome_of_a_probe_s_floats() {
+    for vector in all::<probe::Vector>() {
+        let name = &vector.name;
+        let number = vector.work_out().err().map(|refusal| refusal.number());
+        assert!(name.starts_with("parting-") || number == named_refusal(name), "{name}");
+        let float = f64::from(floats(vector.asked)[0]);
+        let told = |start: &str| name.strip_prefix(start).and_then(|rest| rest.parse::<f64>().ok());
+        assert!(
+            told("half-").is_none_or(|half| half == float && half * 20.0 % 2.0 == 1.0),
+            "{name}"
+        );
+        let below = told("short-of-half-").or(told("short-of-"));
+        assert!(below.is_none_or(|half| float < half), "{name}");
+        let above = told("past-half-").or(told("past-"));
+        assert!(above.is_none_or(|half| float > half), "{name}");
+    }
+}
+
+#[test]
+fn every_exponent_is_tried_with_either_sign() {
+    let vectors = all::<probe::Vector>();
+    let tried: HashSet<u32> =
+        vectors.iter().flat_map(|vector| floats(vector.asked)).map(f32::to_bits).collect();
+    for exponent in 0..=255_u32 {
+        let of = |sign: u32, last: u32| tried.contains(&((sign << 31) | (exponent << 23) | last));
+        let significands = [u32::from(exponent == 0), 0x7f_ffff, 0x2a_5a5b];
+        assert!(of(0, 0), "{exponent}");
+        assert!(exponent > 152 || significands.iter().all(|last| of(0, *last)), "{exponent}");
+        assert!(significands.iter().any(|last| of(1, *last)), "{exponent}");
+    }
+}
+
+#[test]
+fn every_two_faults_of_a_set_are_tried() {
+    let vectors = all::<probe::Vector>();
+    let outcomes = ["good", "31", "32"];
+    for level in outcomes {
+        for temperature in outcomes {
+            for density in outcomes {
+                let told = format!("-set-{level}-{temperature}-{density}-");
+                let count = vectors.iter().filter(|vector| vector.name.contains(&told)).count();
+                assert_eq!(count, if told == "-set-good-good-good-" { 0 } else { 3 }, "{told}");
+            }
+        }
+    }
+}
+
+#[test]
+fn names_tell_the_outcome_of_a_probe_s_car() {
+    for vector in all::<probe_car::Vector>() {
+        let name = &vector.name;
+        let number = vector.work_out().err().map(|refusal| refusal.number());
+        assert!(name.starts_with("parting-") || number == named_refusal(name), "{name}");
+    }
+}
+
+#[test]
+fn names_tell_the_outcome_of_a_probe_s_car_in_a_train() {
+    for vector in all::<probe_train::Vector>() {
+        let name = &vector.name;
+        let (answer, handed_back) = vector.work_out();
+        let number = answer.err().map(|refusal| refusal.number());
+        let is_told = !["parting-", "list-", "one-number-"].iter().any(|of| name.starts_with(of));
+        assert!(!is_told || number == named_refusal(name), "{name}");
+        let stays = matches!(number, Some(7..=11 | 31 | 32));
+        assert_eq!(handed_back == vector.train, stays, "{name}");
+    }
+}
+
+#[test]
+fn names_tell_the_outcome_of_a_probe_s_permitted_error() {
+    for vector in all::<probe_error::Vector>() {
+        let name = &vector.name;
+        let answer = vector.work_out();
+        let number = answer.err().map(|refusal| refusal.number());
+        assert!(name.starts_with("parting-") || number == named_refusal(name), "{name}");
+        let within = answer.is_ok_and(|permitted| permitted.within);
+        assert!(!name.starts_with("within-") || within, "{name}");
+        assert!(!name.starts_with("over-") || !within, "{name}");
+    }
+}
+
+/// Every refusal in the order in which it is tested, and files that have it before the next.
+#[test]
+fn a_probe_s_refusals_stand_in_their_order() {
+    let names = |first: u32, second: u32| format!("order-{first:02}-before-{second:02}");
+    let has = |names: &[String], start: &str| names.iter().any(|name| name.starts_with(start));
+    let of_car: Vec<String> = all::<probe_car::Vector>().into_iter().map(|of| of.name).collect();
+    let of_train: Vec<String> =
+        all::<probe_train::Vector>().into_iter().map(|of| of.name).collect();
+    let of_error: Vec<String> =
+        all::<probe_error::Vector>().into_iter().map(|of| of.name).collect();
+    for first in [31, 32] {
+        for second in [7, 8, 10, 12, 13, 16, 17, 18, 19, 20, 21] {
+            assert!(has(&of_car, &names(first, second)), "{first} before {second}");
+        }
+        for second in 7..=13 {
+            assert!(has(&of_train, &names(first, second)), "{first} before {second}");
+        }
+        for second in [7, 8, 10, 12, 24, 25] {
+            assert!(has(&of_error, &names(first, second)), "{first} before {second}");
+        }
+    }
+    let car = [7, 8, 10, 12, 13, 16, 17, 18, 19, 20, 21];
+    for pair in car[1..].windows(2) {
+        assert!(has(&of_car, &names(pair[0], pair[1])), "{pair:?}");
+    }
+    for pair in [7, 8, 9, 10, 11, 12].windows(2).filter(|pair| pair[0] != 7) {
+        assert!(has(&of_train, &names(pair[0], pair[1])), "{pair:?}");
+    }
+    for second in [24, 25] {
+        for first in car {
+            assert!(has(&of_error, &names(first, second)), "{first} before {second}");
+        }
+    }
+    let neighbours =
+        [(7, 10), (8, 10), (10, 12), (12, 13), (13, 16), (18, 19), (19, 20), (20, 21), (24, 25)];
+    for (first, second) in neighbours {
+        assert!(has(&of_error, &names(first, second)), "{first} before {second}");
     }
 }

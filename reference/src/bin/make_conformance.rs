@@ -1,13 +1,16 @@
 //! Writes the conformance sheets, their listings, their index and figures on the way, and the vectors
 //! of the permitted error, of the laboratory's density, of the tape allowance, of the stick against the
-//! tape and of trains that are handed in: `make_conformance FOLDER`.
+//! tape, of trains that are handed in and of a probe: `make_conformance FOLDER`.
 
 use std::fs;
 use std::path::Path;
 use std::process::ExitCode;
 
 use reference::conformance;
-use reference::conformance::vectors::{self, laboratory, permitted, stick, tape, train, Written};
+use reference::conformance::vectors::{
+    self, laboratory, permitted, probe, probe_car, probe_error, probe_train, stick, tape, train,
+    Written,
+};
 use reference::listing;
 
 fn main() -> ExitCode {
@@ -35,6 +38,10 @@ fn write_cases(folder: &Path) -> std::io::Result<()> {
     write_vectors::<tape::Vector>(folder)?;
     write_vectors::<stick::Vector>(folder)?;
     write_vectors::<train::Vector>(folder)?;
+    write_vectors::<probe::Vector>(folder)?;
+    write_vectors::<probe_car::Vector>(folder)?;
+    write_vectors::<probe_train::Vector>(folder)?;
+    write_vectors::<probe_error::Vector>(folder)?;
     for case in cases {
         let listing = listing::of(&case.sheet);
         fs::write(folder.join(format!("{}.sheet", case.name)), &case.sheet)?;

@@ -6,6 +6,11 @@
 
 pub mod laboratory;
 pub mod permitted;
+pub mod probe;
+pub mod probe_car;
+pub mod probe_error;
+mod probe_parts;
+pub mod probe_train;
 pub mod stick;
 pub mod tape;
 pub mod train;
