@@ -65,7 +65,7 @@ pub const MARKS: &[(&str, &str, &str, &str)] = &[
         "«let table = »tables.find",
         "crate::hooks::place(crate::hooks::GRADE, self.grade);\
          crate::hooks::place(crate::hooks::STICK, self.stick);\
-         crate::hooks::place(crate::hooks::GIVEN, self.given);",
+         crate::hooks::place(crate::hooks::GIVEN, crate::wrong::dip(self).0);",
         "",
     ),
     ("thermal", "«term = nearest»", "crate::hooks::place(crate::hooks::POWER, power as u32);", ""),
@@ -77,6 +77,18 @@ pub const MARKS: &[(&str, &str, &str, &str)] = &[
         "",
     ),
     ("stick", "«ensure(COUNTS»", "crate::hooks::place(crate::hooks::TAPE, count);", ""),
+    (
+        "probe",
+        "«tenths(number.to_bits())»",
+        "crate::hooks::place(crate::hooks::READING, crate::wrong_probe::kind(&self));",
+        "",
+    ),
+    (
+        "probe",
+        "«let SetTenths { level, temperature, density: Density15(density) } = »",
+        "crate::hooks::hold_set([self.set.level, self.set.temperature, self.set.density]);",
+        "",
+    ),
     ("mass", "«nearest(volume * contraction»", "crate::hooks::place(crate::hooks::AT, 15);", ""),
     ("listing", "«match train.enter_sound»", "crate::hooks::next_car();", ""),
     ("listing", "«match train.strike_sound»", "crate::hooks::next_strike();", ""),
@@ -135,7 +147,7 @@ pub const MARKS: &[(&str, &str, &str, &str)] = &[
     ("level", "if «mean == 0» {", "", " && !crate::hooks::skipped(16)"),
     (
         "train",
-        "fn enter(&mut self, car: &Car, tables: &Tables) -> Result<Figures, Refusal> {\n        \
+        "    ) -> Result<Figures, Refusal> {\n        \
          «ensure(self.is_sound(), Refusal::Count)?;»",
         "crate::hooks::place(crate::hooks::HANDED_IN, crate::hooks::TO_ENTER); \
          if let Some(other) = crate::hooks::overtaken(9, || if self.is_sound() { Ok(()) } else \

@@ -1087,9 +1087,9 @@ pub const EDITS: &[Edit] = &[
             ("16 by the last table's end", "level <= in_tenths(crate::wrong::end_of_last(tables))"),
             ("16 by the longest table's end", "level <= in_tenths(crate::wrong::longest(tables))"),
             ("16 by the shortest table's end", "level <= in_tenths(crate::wrong::shortest(tables))"),
-            ("16 by the first reading", "self.readings[0] <= table.last_level()"),
-            ("16 by the second reading", "self.readings[1] <= table.last_level()"),
-            ("16 by the highest reading", "self.readings[..self.given as usize].iter()\
+            ("16 by the first reading", "crate::wrong::dip(self).1[0] <= table.last_level()"),
+            ("16 by the second reading", "crate::wrong::dip(self).1[1] <= table.last_level()"),
+            ("16 by the highest reading", "crate::wrong::dip(self).1[..crate::wrong::dip(self).0 as usize].iter()\
               .all(|&reading| reading <= table.last_level())"),
             ("16 by the last level not times ten", "level <= u64::from(table.last_level())"),
             ("16 by the mean cut to mm", "level / 10 <= u64::from(table.last_level())"),
@@ -1102,16 +1102,18 @@ pub const EDITS: &[Edit] = &[
             ("16 by the tape's highest", "level <= 36_000"),
             ("16 in 16 bits", "(level as u16) <= in_tenths(table.last_level()) as u16"),
             ("16 in 32 bits", "(level as u32) <= in_tenths(table.last_level()) as u32"),
+            ("16 by the level as handed over", "crate::wrong_probe::level(level) \
+              <= 10.0 * f64::from(table.last_level())"),
         ],
     },
     Edit {
         module: "car",
         old: "ensure(«in_tenths(self.water_level) < level»",
         new: &[
-            ("17 by the first reading", "self.water_level < self.readings[0]"),
-            ("17 by the second reading", "self.water_level < self.readings[1]"),
-            ("17 by the lower reading", "self.water_level < self.readings[0].min(self.readings[1])"),
-            ("17 by the higher reading", "self.water_level < self.readings[0].max(self.readings[1])"),
+            ("17 by the first reading", "self.water_level < crate::wrong::dip(self).1[0]"),
+            ("17 by the second reading", "self.water_level < crate::wrong::dip(self).1[1]"),
+            ("17 by the lower reading", "self.water_level < crate::wrong::dip(self).1[0].min(crate::wrong::dip(self).1[1])"),
+            ("17 by the higher reading", "self.water_level < crate::wrong::dip(self).1[0].max(crate::wrong::dip(self).1[1])"),
             ("17 by the table's end", "self.water_level < table.last_level()"),
             ("17 in 16 bits", "(self.water_level as u16).wrapping_mul(10) < level as u16"),
             ("17 in 16 bits, then times ten", "10 * u64::from(self.water_level as u16) < level"),
@@ -1125,6 +1127,8 @@ pub const EDITS: &[Edit] = &[
             ("17 by a tenth more", "in_tenths(self.water_level) < level + 1"),
             ("17 by three tenths less", "in_tenths(self.water_level) + 3 < level"),
             ("17 by a mm less", "in_tenths(self.water_level) + 10 <= level"),
+            ("17 by the level as handed over", "10.0 * f64::from(self.water_level) \
+              < crate::wrong_probe::level(level)"),
         ],
     },
     Edit {
@@ -1148,6 +1152,15 @@ pub const EDITS: &[Edit] = &[
             ("18 without its highest", "self.temperature >= *grade.temperatures.start()"),
             ("18 without its lowest", "(200..=900).contains(&self.temperature) \
               || self.temperature < 200 && self.temperature >= 150"),
+            ("18 by the temperature as handed over", "(f64::from(*grade.temperatures.start())\
+              ..=f64::from(*grade.temperatures.end())).contains(&crate::wrong_probe::temperature(self.temperature))"),
+        ],
+    },
+    Edit {
+        module: "car",
+        old: "«DENSITIES.contains(&self.density)»",
+        new: &[
+            ("19 by the density as handed over", "(9_000.0..=9_900.0).contains(&crate::wrong_probe::density(self.density))"),
         ],
     },
     Edit {
@@ -1206,8 +1219,9 @@ pub const EDITS: &[Edit] = &[
               .saturating_sub(table.capacity(in_tenths(self.water_level)))"),
             ("capacity at the next mm", "table.capacity(level.div_ceil(10) * 10) \
               - table.capacity(in_tenths(self.water_level))"),
-            ("capacity at the first reading", "table.capacity(in_tenths(self.readings[0]))\
+            ("capacity at the first reading", "table.capacity(in_tenths(crate::wrong::dip(self).1[0]))\
               .saturating_sub(table.capacity(in_tenths(self.water_level)))"),
+            ("capacity at the level as handed over", "crate::wrong_probe::volume(table, level, self.water_level)"),
         ],
     },
     Edit {
@@ -1238,6 +1252,8 @@ pub const EDITS: &[Edit] = &[
             ("V15 without Vt", "mass::volume_at_15(volume, density, self.temperature)"),
             ("V15 in double floating point", "(measured as f64 * (thermal::contraction(density, \
               self.temperature - 150) as f64 / 1e10)).round() as u64"),
+            ("V15 by the temperature as handed over", "crate::wrong_probe::volume_at_15(volume, stick, \
+              self.temperature, self.density)"),
         ],
     },
     Edit {
@@ -1251,6 +1267,7 @@ pub const EDITS: &[Edit] = &[
             ("gross in single floating point, from m³", "(volume_at_15 as f32 / 100_000.0 \
               * (self.density as f32 / 10.0)).round() as u64"),
             ("gross by the density at 20", "crate::wrong::gross_by_20(volume_at_15, self.density)"),
+            ("gross by the density as handed over", "crate::wrong_probe::gross(volume_at_15, self.density)"),
         ],
     },
     Edit {
@@ -1322,7 +1339,7 @@ pub const EDITS: &[Edit] = &[
     },
     Edit {
         module: "train",
-        old: "fn enter(&mut self, car: &Car, tables: &Tables) -> Result<Figures, Refusal> {\n        \
+        old: "    ) -> Result<Figures, Refusal> {\n        \
               ensure(«self.is_sound()», Refusal::Count)?;",
         new: &[
             ("a car not tested by 9 of the train", "if self.held > CARS { return Err(Refusal::Count); } true"),
@@ -1490,7 +1507,9 @@ pub const EDITS: &[Edit] = &[
         old: "place = «Place { grade: car.grade, gross, net, ..place }»;",
         new: &[
             ("totals by the stick", "Place { grade: car.stick, gross, net, ..place }"),
-            ("totals by the readings", "Place { grade: car.given, gross, net, ..place }"),
+            ("totals of the next grade", "Place { grade: car.grade % 4 + 1, gross, net, ..place }"),
+            ("totals of the grade before", "Place { grade: (car.grade + 2) % 4 + 1, gross, net, ..place }"),
+            ("totals by the readings", "Place { grade: crate::wrong::dip(car).0, gross, net, ..place }"),
             ("gross as net", "Place { grade: car.grade, gross, net: gross, ..place }"),
             ("net as gross", "Place { grade: car.grade, gross: net, net, ..place }"),
         ],
@@ -1941,7 +1960,7 @@ pub const EDITS: &[Edit] = &[
         old: "table.steps(«u64::from(figures.level)»)",
         new: &[
             ("steps around the water level", "10 * u64::from(car.water_level.max(1))"),
-            ("steps around the first reading", "10 * u64::from(car.readings[0])"),
+            ("steps around the first reading", "10 * u64::from(crate::wrong::dip(car).1[0])"),
             ("steps around the level cut to mm", "u64::from(figures.level / 10 * 10).max(1)"),
             ("steps around the nearest mm", "u64::from((figures.level + 5) / 10 * 10).max(1)"),
             ("steps around the next mm", "u64::from(figures.level.div_ceil(10) * 10)"),
@@ -2387,6 +2406,365 @@ pub const EDITS: &[Edit] = &[
             ("a half going down", "-(i64::from(count) - 20 * apart).div_euclid(2 * i64::from(count))"),
             ("rounded down", "(10 * apart).div_euclid(i64::from(count))"),
             ("rounded up", "-(-10 * apart).div_euclid(i64::from(count))"),
+        ],
+    },
+    Edit {
+        module: "probe",
+        old: "ensure(«bits <= SIGN && size < INFINITY», Refusal::ProbeNumber)?;",
+        new: &[
+            ("minus zero refused", "bits < SIGN && size < INFINITY"),
+            ("zero refused", "size > 0 && bits <= SIGN && size < INFINITY"),
+            ("denormals refused", "bits <= SIGN && size < INFINITY && (size == 0 || size >= FRACTIONS)"),
+            ("denormals below 0 as 0", "bits < SIGN + FRACTIONS && size < INFINITY"),
+            ("below 0 after rounding", "(10.0 * f64::from(f32::from_bits(bits)) + 0.5).floor() >= 0.0 \
+              && size < INFINITY"),
+            ("below 0 after cutting", "if bits > SIGN && f32::from_bits(bits) > -0.1 { return Ok(0); } \
+              bits <= SIGN && size < INFINITY"),
+            ("below 0 as 0", "if bits > SIGN && size < INFINITY { return Ok(0); } \
+              bits <= SIGN && size < INFINITY"),
+            ("below 0 without its sign", "size < INFINITY"),
+            ("below 0 by 32", "if bits > SIGN && size < INFINITY { return Err(Refusal::ProbeTenths); } \
+              bits <= SIGN && size < INFINITY"),
+            ("infinity by 32", "if bits == INFINITY { return Err(Refusal::ProbeTenths); } \
+              bits <= SIGN && size < INFINITY"),
+            ("infinity below 0 by 32", "if bits == SIGN + INFINITY { return Err(Refusal::ProbeTenths); } \
+              bits <= SIGN && size < INFINITY"),
+            ("infinity of either sign by 32", "if size == INFINITY { return Err(Refusal::ProbeTenths); } \
+              bits <= SIGN && size < INFINITY"),
+            ("infinity as the largest", "if bits == INFINITY { return Ok(99_999_999); } \
+              bits <= SIGN && size < INFINITY"),
+            ("not a number as 0", "if size > INFINITY { return Ok(0); } bits <= SIGN && size < INFINITY"),
+            ("not a number with the sign as 0", "if bits > SIGN + INFINITY { return Ok(0); } \
+              bits <= SIGN && size < INFINITY"),
+            ("not a number without the sign as 0", "if bits < SIGN && size > INFINITY { return Ok(0); } \
+              bits <= SIGN && size < INFINITY"),
+            ("not a number by 32", "if size > INFINITY { return Err(Refusal::ProbeTenths); } \
+              bits <= SIGN && size < INFINITY"),
+            ("not a number with the sign by 32", "if bits > SIGN + INFINITY { return Err(Refusal::ProbeTenths); } \
+              bits <= SIGN && size < INFINITY"),
+            ("not a number without the sign by 32", "if bits < SIGN && size > INFINITY \
+              { return Err(Refusal::ProbeTenths); } bits <= SIGN && size < INFINITY"),
+            ("one not a number known", "if size > INFINITY && bits != 0x7fc0_0000 { return Ok(0); } \
+              bits <= SIGN && size < INFINITY"),
+            ("quiet ones known alone", "if size > INFINITY && size < INFINITY + FRACTIONS / 2 { return Ok(0); } \
+              bits <= SIGN && size < INFINITY"),
+            ("signalling ones known alone", "if size >= INFINITY + FRACTIONS / 2 { return Ok(0); } \
+              bits <= SIGN && size < INFINITY"),
+            ("the largest exponent by 31", "bits <= SIGN && size < INFINITY - FRACTIONS"),
+            ("32 before 31", "if f32::from_bits(size) >= 10_000_000.0 { return Err(Refusal::ProbeTenths); } \
+              bits <= SIGN && size < INFINITY"),
+        ],
+    },
+    Edit {
+        module: "probe",
+        old: "let (significand, doublings) = «take_apart(size)»;",
+        new: &[
+            ("single product, rounded", "return crate::wrong_probe::by(size, |n| (10.0 * n).round().into())"),
+            ("single product and a half", "return crate::wrong_probe::by(size, |n| (10.0 * n + 0.5).floor().into())"),
+            ("single product, cut", "return crate::wrong_probe::by(size, |n| (10.0 * n).floor().into())"),
+            ("single product, half to even", "return crate::wrong_probe::by(size, |n| (10.0 * n).round_ties_even().into())"),
+            ("single product and a half, rounded once", "return crate::wrong_probe::by(size, |n| \
+              n.mul_add(10.0, 0.5).floor().into())"),
+            ("single quotient by 0.1", "return crate::wrong_probe::by(size, |n| (n / 0.1).round().into())"),
+            ("0.05 added in single", "return crate::wrong_probe::by(size, |n| (10.0 * (n + 0.05)).floor().into())"),
+            ("single product of the fraction alone", "return crate::wrong_probe::by(size, |n| \
+              10.0 * f64::from(n.trunc()) + f64::from((10.0 * n.fract()).round()))"),
+            ("eight and two times in single", "return crate::wrong_probe::by(size, |n| (8.0 * n + 2.0 * n).round().into())"),
+            ("cut", "return crate::wrong_probe::by(size, |n| (10.0 * f64::from(n)).floor())"),
+            ("rounded up", "return crate::wrong_probe::by(size, |n| (10.0 * f64::from(n)).ceil())"),
+            ("half to even", "return crate::wrong_probe::by(size, |n| (10.0 * f64::from(n)).round_ties_even())"),
+            ("half down", "return crate::wrong_probe::by(size, |n| (10.0 * f64::from(n) - 0.5).ceil())"),
+            ("half to odd", "return crate::wrong_probe::by(size, |n| (10.0 * f64::from(n) + 1.0).round_ties_even() - 1.0)"),
+            ("double product, rounded", "return crate::wrong_probe::by(size, |n| (10.0 * f64::from(n)).round())"),
+            ("double quotient by 0.1 of 0.05 more", "return crate::wrong_probe::by(size, |n| \
+              ((f64::from(n) + 0.05) / 0.1).floor())"),
+            ("shortest text", "return crate::wrong_probe::by(size, |n| crate::wrong_probe::of_text(&n.to_string()))"),
+            ("text of one decimal", "return crate::wrong_probe::by(size, |n| \
+              crate::wrong_probe::of_text(&format!(\"{n:.1}\")))"),
+            ("text of two decimals", "return crate::wrong_probe::by(size, |n| \
+              crate::wrong_probe::of_text(&format!(\"{n:.2}\")))"),
+            ("text of three decimals", "return crate::wrong_probe::by(size, |n| \
+              crate::wrong_probe::of_text(&format!(\"{n:.3}\")))"),
+            ("text of six decimals", "return crate::wrong_probe::by(size, |n| \
+              crate::wrong_probe::of_text(&format!(\"{n:.6}\")))"),
+            ("six digits", "return crate::wrong_probe::by(size, |n| crate::wrong_probe::of_digits(n, 6))"),
+            ("seven digits", "return crate::wrong_probe::by(size, |n| crate::wrong_probe::of_digits(n, 7))"),
+            ("eight digits", "return crate::wrong_probe::by(size, |n| crate::wrong_probe::of_digits(n, 8))"),
+            ("hundredths first", "return crate::wrong_probe::by(size, |n| \
+              ((100.0 * f64::from(n)).round() / 10.0).round())"),
+            ("whole numbers", "return crate::wrong_probe::by(size, |n| 10.0 * f64::from(n.round()))"),
+            ("whole numbers, cut", "return crate::wrong_probe::by(size, |n| 10.0 * f64::from(n.floor()))"),
+            ("whole numbers, up", "return crate::wrong_probe::by(size, |n| 10.0 * f64::from(n.ceil()))"),
+            ("halves of the unit", "return crate::wrong_probe::by(size, |n| 5.0 * f64::from((2.0 * n).round()))"),
+            ("not times ten", "return crate::wrong_probe::by(size, |n| n.round().into())"),
+            ("in hundredths", "return crate::wrong_probe::by(size, |n| (100.0 * f64::from(n)).round())"),
+            ("parts of 65,536, cut", "return crate::wrong_probe::by(size, |n| \
+              crate::wrong_probe::of_parts((65_536.0 * f64::from(n)).floor()))"),
+            ("parts of 65,536, rounded", "return crate::wrong_probe::by(size, |n| \
+              crate::wrong_probe::of_parts((65_536.0 * f64::from(n)).round()))"),
+            ("tenths held as a float", "return crate::wrong_probe::by(size, |n| \
+              f64::from((10.0 * f64::from(n)).round() as f32))"),
+            ("tenths in 8 bits", "return crate::wrong_probe::by_rule(size).map(|tenths| tenths & 0xff)"),
+            ("tenths in 15 bits", "return crate::wrong_probe::by_rule(size).map(|tenths| tenths & 0x7fff)"),
+            ("tenths in 16 bits", "return crate::wrong_probe::by_rule(size).map(|tenths| tenths & 0xffff)"),
+            ("tenths in 24 bits", "return crate::wrong_probe::by_rule(size).map(|tenths| tenths & 0xff_ffff)"),
+            ("sixteen bits of the float", "return crate::wrong_probe::by_rule(size >> 16 << 16)"),
+            ("bytes turned round", "return crate::wrong_probe::by_rule(size.swap_bytes())"),
+            ("leading one left out", "return crate::wrong_probe::limited((10.0 * (f64::from(f32::from_bits(size)) \
+              - f64::from(f32::from_bits(size / FRACTIONS * FRACTIONS)))).round())"),
+            ("denormals with a leading one", "if size < FRACTIONS { (u64::from(FRACTIONS + size), 0) } \
+              else { take_apart(size) }"),
+            ("denormals as 0", "if size < FRACTIONS { return Ok(0); } take_apart(size)"),
+            ("32 not tested", "return Ok(crate::wrong_probe::product(size).round() as u32)"),
+            ("32 not tested, in 32 bits", "return Ok(crate::wrong_probe::product(size).round() as u128 as u32)"),
+            ("32 by tenths in 32 bits", "return crate::wrong_probe::limited((crate::wrong_probe::product(size)\
+              .round() as u128 as u32).into())"),
+            ("32 by tenths in 64 bits", "return crate::wrong_probe::limited((crate::wrong_probe::product(size)\
+              .round() as u128 as u64) as f64)"),
+            ("held at the limit", "return Ok(crate::wrong_probe::product(size).round().min(99_999_999.0) as u32)"),
+            ("0 in place of 32", "return crate::wrong_probe::by_rule(size).or(Ok(0))"),
+            ("31 in place of 32", "return crate::wrong_probe::by_rule(size).or(Err(Refusal::ProbeNumber))"),
+            ("limit of 100,000,000", "return crate::wrong_probe::limit(size, |_, tenths| tenths <= 100_000_000.0)"),
+            ("limit for the number itself", "return crate::wrong_probe::limit(size, |n, _| n <= 99_999_999.0)"),
+            ("limit as a float", "return crate::wrong_probe::limit(size, |n, _| n <= 9_999_999.9)"),
+            ("limit before rounding", "return crate::wrong_probe::limit(size, |n, _| \
+              10.0 * f64::from(n) <= 99_999_999.0)"),
+            ("the largest refused", "return crate::wrong_probe::limit(size, |n, _| n < 9_999_999.0)"),
+            ("limit of seven digits", "return crate::wrong_probe::limit(size, |_, tenths| tenths <= 9_999_999.0)"),
+            ("limit of six digits before the point", "return crate::wrong_probe::limit(size, |n, _| n < 1_000_000.0)"),
+            ("limit of 2²⁴ tenths", "return crate::wrong_probe::limit(size, |_, tenths| tenths <= 16_777_216.0)"),
+            ("limit of 2²³", "return crate::wrong_probe::limit(size, |n, _| n <= 8_388_608.0)"),
+            ("limit of 2²⁴", "return crate::wrong_probe::limit(size, |n, _| n <= 16_777_216.0)"),
+            ("limit of 3,600 mm", "return crate::wrong_probe::limit(size, |_, tenths| tenths <= 36_000.0)"),
+        ],
+    },
+    Edit {
+        module: "probe",
+        old: "let level = «Reading::Level(self.level).tenths()?»;",
+        new: &[
+            ("temperature before level", "{ Reading::Temperature(self.temperature).tenths()?; \
+              Reading::Level(self.level).tenths()? }"),
+            ("density before level", "{ Reading::Density(self.density).tenths()?; \
+              Reading::Level(self.level).tenths()? }"),
+            ("density, temperature, level", "{ Reading::Density(self.density).tenths()?; \
+              Reading::Temperature(self.temperature).tenths()?; Reading::Level(self.level).tenths()? }"),
+            ("any 31 before 32", "{ crate::wrong_probe::first_any(self, Refusal::ProbeNumber)?; \
+              Reading::Level(self.level).tenths()? }"),
+            ("any 32 before 31", "{ crate::wrong_probe::first_any(self, Refusal::ProbeTenths)?; \
+              Reading::Level(self.level).tenths()? }"),
+            ("the last fault", "{ crate::wrong_probe::last_fault(self)?; Reading::Level(self.level).tenths()? }"),
+            ("level in whole mm", "Reading::Level(self.level.round()).tenths()?"),
+            ("level cut to mm", "Reading::Level(self.level.floor()).tenths()?"),
+            ("level up to the next mm", "Reading::Level(self.level.ceil()).tenths()?"),
+            ("level not tested", "Reading::Level(self.level).tenths().unwrap_or(0)"),
+            ("level not tested by 32", "Reading::Level(self.level.min(9_999_999.0)).tenths()?"),
+        ],
+    },
+    Edit {
+        module: "probe",
+        old: "let temperature = «Reading::Temperature(self.temperature).tenths()?»;",
+        new: &[
+            ("density before temperature", "{ Reading::Density(self.density).tenths()?; \
+              Reading::Temperature(self.temperature).tenths()? }"),
+            ("any 31 before 32 behind the level", "{ crate::wrong_probe::first_any(self, Refusal::ProbeNumber)?; \
+              Reading::Temperature(self.temperature).tenths()? }"),
+            ("temperature in whole degrees", "Reading::Temperature(self.temperature.round()).tenths()?"),
+            ("temperature cut to degrees", "Reading::Temperature(self.temperature.floor()).tenths()?"),
+            ("temperature not tested", "Reading::Temperature(self.temperature).tenths().unwrap_or(0)"),
+            ("temperature not tested by 32", "Reading::Temperature(self.temperature.min(9_999_999.0)).tenths()?"),
+            ("temperature below 0 taken", "Reading::Temperature(self.temperature).tenths()\
+              .or_else(|refusal| if self.temperature < 0.0 && self.temperature.is_finite() { Ok(0) } \
+              else { Err(refusal) })?"),
+        ],
+    },
+    Edit {
+        module: "probe",
+        old: "let density = «Reading::Density(self.density).tenths()?»;",
+        new: &[
+            ("density in whole kilograms", "Reading::Density(self.density.round()).tenths()?"),
+            ("density cut to kilograms", "Reading::Density(self.density.floor()).tenths()?"),
+            ("density not tested", "Reading::Density(self.density).tenths().unwrap_or(0)"),
+            ("density not tested by 32", "Reading::Density(self.density.min(9_999_999.0)).tenths()?"),
+        ],
+    },
+    Edit {
+        module: "probe",
+        old: "Ok(«SetTenths { level, temperature, density: Density15(density) }»)",
+        new: &[
+            ("temperature and density exchanged", "crate::wrong_probe::exchanged(SetTenths { level, temperature, \
+              density: Density15(density) })"),
+            ("level and temperature exchanged", "SetTenths { level: temperature, temperature: level, \
+              density: Density15(density) }"),
+            ("density as at 20 °C", "SetTenths { level, temperature, \
+              density: crate::wrong_probe::brought_again(density, 200) }"),
+            ("density as at the oil's temperature", "SetTenths { level, temperature, \
+              density: crate::wrong_probe::brought_again(density, temperature) }"),
+            ("density brought to 20 °C", "SetTenths { level, temperature, \
+              density: crate::wrong_probe::at_20(density) }"),
+        ],
+    },
+    Edit {
+        module: "probe",
+        old: "level: «Taken::Probed(level)»,",
+        new: &[
+            ("14 tested", "Taken::Dipped { given: 0, readings: [0; 4] }"),
+            ("no readings", "Taken::Dipped { given: 2, readings: [0; 4] }"),
+            ("15 tested", "Taken::Dipped { given: 2, readings: [(level / 10).saturating_sub(1), \
+              level / 10 + 1, 0, 0] }"),
+            ("15 tested between whole mm", "if level % 10 > 0 { Taken::Dipped { given: 2, readings: [0, 2, 0, 0] } } \
+              else { Taken::Probed(level) }"),
+            ("23 tested", "Taken::Dipped { given: 4, readings: [level / 10, level / 10 + 2, level / 10 + 4, \
+              level / 10 + 6] }"),
+            ("two readings of whole mm", "Taken::Dipped { given: 2, readings: [level / 10, level / 10, 0, 0] }"),
+            ("two readings around it", "Taken::Dipped { given: 2, readings: [level / 10, level.div_ceil(10), 0, 0] }"),
+            ("in mm", "Taken::Probed(level / 10)"),
+            ("cut to mm", "Taken::Probed(level / 10 * 10)"),
+            ("to the nearest mm", "Taken::Probed((level + 5) / 10 * 10)"),
+            ("up to the next mm", "Taken::Probed(level.div_ceil(10) * 10)"),
+            ("to half a mm", "Taken::Probed((2 * level + 5) / 10 * 5)"),
+            ("in hundredths", "Taken::Probed(10 * level)"),
+            ("in 16 bits", "Taken::Probed(level & 0xffff)"),
+            ("from the water level on", "Taken::Probed(level.saturating_add(self.water_level.wrapping_mul(10)))"),
+        ],
+    },
+    Edit {
+        module: "probe",
+        old: "stick: «self.stick»,",
+        new: &[
+            ("always steel", "1"),
+            ("always aluminium", "2"),
+            ("not tested", "if self.stick == 2 { 2 } else { 1 }"),
+            ("0 taken", "if self.stick == 0 { 1 } else { self.stick }"),
+            ("3 taken", "if self.stick == 3 { 1 } else { self.stick }"),
+        ],
+    },
+    Edit {
+        module: "probe",
+        old: "water_level: «self.water_level»,",
+        new: &[
+            ("none", "0"),
+            ("in tenths", "self.water_level / 10"),
+            ("in tenths, up to the next mm", "self.water_level.div_ceil(10)"),
+        ],
+    },
+    Edit {
+        module: "probe",
+        old: "number: «self.number»,",
+        new: &[
+            ("as a float", "self.number as f32 as u32"),
+            ("in 16 bits", "self.number & 0xffff"),
+        ],
+    },
+    Edit {
+        module: "probe",
+        old: "water: «self.water»,",
+        new: &[("none", "0"), ("that of the impurities", "self.impurities")],
+    },
+    Edit {
+        module: "probe",
+        old: "impurities: «self.impurities»,",
+        new: &[("none", "0"), ("those of the water", "self.water")],
+    },
+    Edit {
+        module: "probe",
+        old: "«self.measured()?.work_out(tables)»",
+        new: &[
+            ("31 and 32 after 10", "{ crate::wrong_probe::others_first(self, 10, &crate::wrong_probe::alone(tables))?; \
+              self.measured()?.work_out(tables) }"),
+            ("31 and 32 after 12", "{ crate::wrong_probe::others_first(self, 12, &crate::wrong_probe::alone(tables))?; \
+              self.measured()?.work_out(tables) }"),
+            ("31 and 32 after 13", "{ crate::wrong_probe::others_first(self, 13, &crate::wrong_probe::alone(tables))?; \
+              self.measured()?.work_out(tables) }"),
+            ("31 and 32 after 21", "{ crate::wrong_probe::others_first(self, 21, &crate::wrong_probe::alone(tables))?; \
+              self.measured()?.work_out(tables) }"),
+            ("31 and 32 where a number is used", "{ crate::wrong_probe::where_used(self, &crate::wrong_probe::alone(tables))?; \
+              self.measured()?.work_out(tables) }"),
+            ("10 not tested", "self.measured()?.figures(tables)"),
+        ],
+    },
+    Edit {
+        module: "level",
+        old: "Self::Probed(level) => «unless_zero(u64::from(level))»",
+        new: &[
+            ("0 accepted", "Ok(u64::from(level))"),
+            ("16 below 1 mm", "if level < 10 { Err(Refusal::Level) } else { Ok(u64::from(level)) }"),
+            ("16 below half a mm", "if level < 5 { Err(Refusal::Level) } else { Ok(u64::from(level)) }"),
+            ("17 in place of 16", "if level == 0 { Err(Refusal::WaterLevel) } else { Ok(u64::from(level)) }"),
+            ("31 in place of 16", "if level == 0 { Err(Refusal::ProbeNumber) } else { Ok(u64::from(level)) }"),
+            ("32 above 3,600 mm", "if level > 36_000 { Err(Refusal::ProbeTenths) } else { unless_zero(u64::from(level)) }"),
+            ("16 without a tape allowance", "if has_allowance(u64::from(level)) { Ok(u64::from(level)) } \
+              else { Err(Refusal::Level) }"),
+        ],
+    },
+    Edit {
+        module: "train",
+        old: "«self.enter_measured(&car.measured()?, tables)»",
+        new: &[
+            ("a car refused by 31 is held", "crate::wrong_probe::hold_if(self, car, tables, |by| by == Refusal::ProbeNumber)"),
+            ("a car refused by 32 is held", "crate::wrong_probe::hold_if(self, car, tables, |by| by == Refusal::ProbeTenths)"),
+            ("a car refused by 31 or 32 is held", "crate::wrong_probe::hold_if(self, car, tables, |_| true)"),
+            ("a car refused by 31 or 32 is held in a sound train", "{ let is_sound = self.is_sound(); \
+              if is_sound { crate::wrong_probe::hold_if(self, car, tables, |_| true) } \
+              else { self.enter_measured(&car.measured()?, tables) } }"),
+            ("a car refused by 31 or 32 is held if it can be told", "{ let told = self.is_sound() \
+              && car.number > 0 && !crate::wrong::holds(self, car.number); \
+              if told { crate::wrong_probe::hold_if(self, car, tables, |_| true) } \
+              else { self.enter_measured(&car.measured()?, tables) } }"),
+            ("a car refused by 31 or 32 is counted", "{ if car.measured().is_err() { self.all.accepted += 1; } \
+              self.enter_measured(&car.measured()?, tables) }"),
+            ("a car refused by 31 or 32 takes the held one out", "{ if car.measured().is_err() && self.is_sound() \
+              { let _ = self.strike_sound(car.number); } self.enter_measured(&car.measured()?, tables) }"),
+            ("a car refused by 31 or 32 clears the free places", "{ if car.measured().is_err() && self.held < CARS \
+              { self.places[self.held..].fill(Place::default()); } self.enter_measured(&car.measured()?, tables) }"),
+            ("31 and 32 after 9", "{ crate::wrong_probe::others_first(car, 9, &crate::wrong_probe::entered(self, tables))?; \
+              self.enter_measured(&car.measured()?, tables) }"),
+            ("31 and 32 after 9 of the train, but before sixty numbers", "{ if !self.is_sound() { return Err(Refusal::Count); } \
+              self.enter_measured(&car.measured()?, tables) }"),
+            ("31 and 32 after sixty numbers", "{ if self.held == CARS { return Err(Refusal::Count); } \
+              self.enter_measured(&car.measured()?, tables) }"),
+            ("31 and 32 after 10", "{ crate::wrong_probe::others_first(car, 10, &crate::wrong_probe::entered(self, tables))?; \
+              self.enter_measured(&car.measured()?, tables) }"),
+            ("31 and 32 after 11", "{ crate::wrong_probe::others_first(car, 11, &crate::wrong_probe::entered(self, tables))?; \
+              self.enter_measured(&car.measured()?, tables) }"),
+            ("31 and 32 after 12", "{ crate::wrong_probe::others_first(car, 12, &crate::wrong_probe::entered(self, tables))?; \
+              self.enter_measured(&car.measured()?, tables) }"),
+            ("31 and 32 after 13", "{ crate::wrong_probe::others_first(car, 13, &crate::wrong_probe::entered(self, tables))?; \
+              self.enter_measured(&car.measured()?, tables) }"),
+            ("31 and 32 after 21", "{ crate::wrong_probe::others_first(car, 21, &crate::wrong_probe::entered(self, tables))?; \
+              self.enter_measured(&car.measured()?, tables) }"),
+            ("31 and 32 where a number is used", "{ crate::wrong_probe::where_used(car, \
+              &crate::wrong_probe::entered(self, tables))?; self.enter_measured(&car.measured()?, tables) }"),
+            ("a probe's car not tested by 9 of the train", "{ let measured = car.measured()?; if self.held > CARS \
+              { return Err(Refusal::Count); } self.enter_sound(&measured, tables) }"),
+            ("a probe's car is not entered", "{ let measured = car.measured()?; \
+              self.clone().enter_measured(&measured, tables) }"),
+            ("a probe's car is entered if it is accepted", "{ let measured = car.measured()?; \
+              self.clone().enter_measured(&measured, tables)?; self.enter_measured(&measured, tables) }"),
+            ("a probe's car is worked out alone", "car.measured()?.work_out(tables)"),
+        ],
+    },
+    Edit {
+        module: "permitted",
+        old: "«of(&car.measured()?, tables, errors)»",
+        new: &[
+            ("24 before 31", "{ errors.check()?; of(&car.measured()?, tables, errors) }"),
+            ("24 before the car's refusals", "{ let car = car.measured()?; errors.check()?; of(&car, tables, errors) }"),
+            ("31 and 32 after 10", "{ crate::wrong_probe::others_first(car, 10, &crate::wrong_probe::alone(tables))?; \
+              of(&car.measured()?, tables, errors) }"),
+            ("31 and 32 after 12", "{ crate::wrong_probe::others_first(car, 12, &crate::wrong_probe::alone(tables))?; \
+              of(&car.measured()?, tables, errors) }"),
+            ("31 and 32 after 13", "{ crate::wrong_probe::others_first(car, 13, &crate::wrong_probe::alone(tables))?; \
+              of(&car.measured()?, tables, errors) }"),
+            ("31 and 32 after 21", "{ crate::wrong_probe::others_first(car, 21, &crate::wrong_probe::alone(tables))?; \
+              of(&car.measured()?, tables, errors) }"),
+            ("31 and 32 where a number is used", "{ crate::wrong_probe::where_used(car, &crate::wrong_probe::alone(tables))?; \
+              of(&car.measured()?, tables, errors) }"),
+            ("no level error", "{ let car = car.measured()?; car.work_out(tables)?; errors.check()?; \
+              of(&car, tables, &Errors { level: 0, ..*errors }) }"),
+            ("no error of the density's temperature", "{ let car = car.measured()?; car.work_out(tables)?; \
+              errors.check()?; of(&car, tables, &Errors { density_temperature: 0, ..*errors }) }"),
+            ("level error not tested", "{ let car = car.measured()?; of(&car, tables, &Errors { \
+              level: errors.level.min(100), ..*errors }) }"),
         ],
     },
 ];

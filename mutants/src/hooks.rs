@@ -53,12 +53,19 @@ pub const STRIKE: usize = 21;
 pub const PLACE: usize = 22;
 /// What a train is handed in with, [`TO_ENTER`] or [`TO_STRIKE`]; on a sheet 0.
 pub const HANDED_IN: usize = 23;
+/// Which of a probe's numbers is taken, from [`LEVEL`] to [`DENSITY`].
+pub const READING: usize = 24;
+/// What a probe's numbers are handed over for, from [`ONE`] to [`PERMITTED`]; without a probe 0.
+pub const PROBE: usize = 25;
+/// Whether a probe's car is at hand, of whichever kind: 1 where it is.
+pub const BY_PROBE: usize = 26;
 const SKIPPED: usize = 11;
 const TYPES: usize = 12;
 const ROW_LEVEL: usize = 16;
 const ROW_CAPACITY: usize = 17;
 const TABLES: usize = 18;
-const KEYS: usize = 24;
+const FLOATS: usize = 27;
+const KEYS: usize = 30;
 
 /// Where a wrong way is taken: where the key's number lies between two bounds.
 #[derive(Clone, Copy, Debug, PartialEq, Eq)]
@@ -76,19 +83,48 @@ pub const LABORATORY: u32 = 100;
 pub const TO_ENTER: u32 = 1;
 pub const TO_STRIKE: u32 = 2;
 
-/// The refusals of a car, of a report, of a stick's check and of a strike, in the order in which they are
-/// tested.
-pub const ORDERS: [&[u32]; 4] = [
-    &[9, 10, 11, 12, 13, 14, 15, 23, 16, 17, 18, 19, 20, 21, 24, 25],
-    &[26, 27],
-    &[28, 29],
-    &[9, 30],
+/// What a number of a probe is: among the numbers of [`READING`].
+pub const LEVEL: u32 = 1;
+pub const TEMPERATURE: u32 = 2;
+pub const DENSITY: u32 = 3;
+
+/// A reading by itself, a set by itself, a car worked out alone, a car that is entered in a train, and a car
+/// with its permitted error: among the numbers of [`PROBE`].
+pub const ONE: u32 = 1;
+pub const SET: u32 = 2;
+pub const ALONE: u32 = 3;
+pub const ENTERED: u32 = 4;
+pub const PERMITTED: u32 = 5;
+
+/// Refusals in the order in which they are tested, and the number of [`PROBE`] for which they are.
+pub struct Order {
+    pub probe: u32,
+    pub refusals: &'static [u32],
+}
+
+const fn order(probe: u32, refusals: &'static [u32]) -> Order {
+    Order { probe, refusals }
+}
+
+/// The refusals of a car, of a report, of a stick's check and of a strike, then those of a probe's numbers
+/// and cars.
+pub const ORDERS: [Order; 9] = [
+    order(0, &[9, 10, 11, 12, 13, 14, 15, 23, 16, 17, 18, 19, 20, 21, 24, 25]),
+    order(0, &[26, 27]),
+    order(0, &[28, 29]),
+    order(0, &[9, 30]),
+    order(ONE, &[31, 32]),
+    order(SET, &[31, 32]),
+    order(ALONE, &[31, 32, 7, 8, 10, 12, 13, 16, 17, 18, 19, 20, 21]),
+    order(ENTERED, &[31, 32, 7, 8, 9, 10, 11, 12, 13, 16, 17, 18, 19, 20, 21]),
+    order(PERMITTED, &[31, 32, 7, 8, 10, 12, 13, 16, 17, 18, 19, 20, 21, 24, 25]),
 ];
 
 /// The letters of a sheet.
 pub const LETTERS: &[u8; 5] = b"TRCKE";
 
-/// Two refusals that are tested in the other order, or none.
+/// Two refusals that are tested in the other order, or none, and the place of their order.
+static ORDER: AtomicUsize = AtomicUsize::new(0);
 static FIRST: AtomicU32 = AtomicU32::new(0);
 static SECOND: AtomicU32 = AtomicU32::new(0);
 
@@ -103,7 +139,8 @@ pub fn go_wrong(point: usize, choice: usize, context: Context) {
 }
 
 /// Sets two refusals that are tested in the other order from here on; 0 and 0 for none.
-pub fn exchange(first: u32, second: u32) {
+pub fn exchange(order: usize, first: u32, second: u32) {
+    ORDER.store(order, Relaxed);
     FIRST.store(first, Relaxed);
     SECOND.store(second, Relaxed);
 }
@@ -231,6 +268,27 @@ pub fn types() -> Vec<u32> {
     (0..at(TABLES) as usize).map(|table| at(TYPES + table)).collect()
 }
 
+/// A probe's numbers are handed over, for what a number of [`PROBE`] says.
+pub fn begin_probe(probe: u32) {
+    place(PROBE, probe);
+    place(BY_PROBE, u32::from(probe >= ALONE));
+}
+
+/// A probe's set is at hand: level, temperature and density.
+pub fn hold_set(set: [f32; 3]) {
+    (FLOATS..).zip(set).for_each(|(key, float)| place(key, float.to_bits()));
+}
+
+/// Level, temperature and density as the probe handed them over.
+pub fn floats() -> [f64; 3] {
+    [0, 1, 2].map(|of| f32::from_bits(at(FLOATS + of)).into())
+}
+
+/// Whether a probe's car is at hand.
+pub fn is_by_probe() -> bool {
+    at(BY_PROBE) == 1
+}
+
 /// Level and capacity of the row before, and the rows read of its table.
 pub fn row_before() -> (u32, u32, u32) {
     (at(ROW_LEVEL), at(ROW_CAPACITY), at(ROW))
@@ -293,28 +351,31 @@ pub fn skipped(refusal: u32) -> bool {
 
 /// The refusal that is given in place of `first` where the two are tested in the other order.
 pub fn overtaken<T>(first: u32, work: impl FnOnce() -> Result<T, Refusal>) -> Option<Refusal> {
-    if FIRST.load(Relaxed) != first {
+    let order = &ORDERS[ORDER.load(Relaxed)];
+    if FIRST.load(Relaxed) != first || order.probe != at(PROBE) {
         return None;
     }
     let second = SECOND.load(Relaxed);
-    let order = ORDERS.iter().find(|order| order.contains(&first) && order.contains(&second))?;
-    let place = |refusal: u32| order.iter().position(|&other| other == refusal);
+    let place = |refusal: u32| order.refusals.iter().position(|&other| other == refusal);
     let later = place(first)..=place(second);
     work().err().filter(|other| later.contains(&place(other.number())) && other.number() != first)
 }
 
+/// The refusal that `work` gives in place of the first of two that are tested in the other order.
+pub fn first_overtaken<T>(work: impl FnOnce() -> Result<T, Refusal>) -> Option<Refusal> {
+    let first = FIRST.load(Relaxed);
+    if first == 0 {
+        return None;
+    }
+    place(SKIPPED, first);
+    let other = overtaken(first, work);
+    place(SKIPPED, 0);
+    other
+}
+
 /// The answer of `work` where two of its refusals are tested in the other order.
 pub fn reordered<T>(work: impl Fn() -> Result<T, Refusal>) -> Result<T, Refusal> {
-    let first = FIRST.load(Relaxed);
-    if first > 0 {
-        place(SKIPPED, first);
-        let other = overtaken(first, &work);
-        place(SKIPPED, 0);
-        if let Some(other) = other {
-            return Err(other);
-        }
-    }
-    work()
+    first_overtaken(&work).map_or_else(&work, Err)
 }
 
 /// Whole numbers of the rules.

@@ -7,7 +7,10 @@ mod hooks;
 mod laboratory;
 mod mutants;
 mod permitted;
+mod probe;
+mod probe_lot;
 mod stick;
+mod tables;
 mod tape;
 mod train;
 mod trial;
@@ -17,6 +20,7 @@ mod turned {
     include!(concat!(env!("OUT_DIR"), "/turned.rs"));
 }
 mod wrong;
+mod wrong_probe;
 
 use std::process::ExitCode;
 
@@ -150,8 +154,10 @@ fn kit(first: usize) -> Kit {
     let levels = vectors::all::<vectors::tape::Vector>();
     let checks = vectors::all::<vectors::stick::Vector>();
     let trains = vectors::all::<vectors::train::Vector>();
+    let probes = probe::of_vectors();
     let sheets = cases.len().min(first);
-    let vectors = cars.len() + reports.len() + levels.len() + checks.len() + trains.len();
+    let vectors = [cars.len(), reports.len(), levels.len(), checks.len(), trains.len()];
+    let vectors = vectors.iter().sum::<usize>() + probes.len();
     let cases = cases.into_iter().take(first);
     let trials = cases
         .map(|case| Trial::new(case.name.to_string(), case.sheet))
@@ -160,6 +166,7 @@ fn kit(first: usize) -> Kit {
         .chain(levels.into_iter().map(|vector| Trial::of_level(vector.level)))
         .chain(checks.into_iter().map(Trial::of_check))
         .chain(trains.into_iter().map(Trial::of_train))
+        .chain(probes.into_iter().map(Trial::of_probe))
         .collect();
     Kit { trials, sheets, vectors }
 }
@@ -174,6 +181,7 @@ fn generated(sheets: u64) -> Vec<Trial> {
         .chain(tape::drawn(sheets).map(Trial::of_level))
         .chain(stick::drawn(sheets).map(Trial::of_check))
         .chain(train::drawn(sheets).map(Trial::of_train))
+        .chain(probe_lot::drawn(sheets).map(Trial::of_probe))
         .collect()
 }
 

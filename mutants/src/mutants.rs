@@ -1,6 +1,6 @@
 //! The list of wrong programs: every wrong way at every point, also held to one line, field, table,
-//! car or strike, and every two refusals of a car, of a report, of a stick's check or of a strike, tested
-//! in the other order.
+//! car, strike or number of a probe, and every two refusals of a car, of a report, of a stick's check, of a
+//! strike or of a probe's car, tested in the other order.
 
 use std::fmt;
 use std::sync::OnceLock;
@@ -12,8 +12,8 @@ use crate::{Point, POINTS};
 pub enum Mutant {
     /// A point, a wrong way counted from 1, and which of the point's contexts it is held to.
     Point(usize, usize, usize),
-    /// Two refusals, the first of which is tested directly after the second.
-    Order(u32, u32),
+    /// The place of an order, and two of its refusals, the first of which is tested directly after the second.
+    Order(usize, u32, u32),
 }
 
 const EVERYWHERE: Context = Context { key: hooks::ALWAYS, low: 0, high: 0 };
@@ -29,22 +29,39 @@ fn keys(point: &Point) -> &'static [usize] {
         ("sheet", _) => &[hooks::LINE],
         ("table", "add") => &[hooks::TABLE, hooks::ROW],
         ("table", "find" | "new") => &[],
-        ("table", _) => &[hooks::TABLE],
+        ("table", "begin") => &[hooks::TABLE],
+        ("table", _) => &[hooks::TABLE, hooks::BY_PROBE],
         ("level", "tape_allowance" | "has_allowance" | "metres") => &[],
+        ("level", "unless_zero" | "in_tenths") => &[hooks::GIVEN, hooks::BY_PROBE],
+        ("level", _) if point.code.starts_with("Self::Probed") => &[],
         ("level", _) => &[hooks::GIVEN],
         ("stick", _) if point.code.starts_with("ensure(") => &[],
         ("stick", _) => &[hooks::TAPE],
-        ("car", _) => &[hooks::GRADE, hooks::STICK, hooks::TABLE, hooks::GIVEN],
-        ("thermal", "exponential") => &[hooks::AT, hooks::POWER, hooks::STICK, hooks::GRADE],
-        ("thermal", "numbered" | "expansion" | "volume_at_temperature") => {
-            &[hooks::STICK, hooks::GRADE]
+        ("car", "work_out" | "check_number") => &[hooks::BY_PROBE],
+        ("car", _) => &[hooks::GRADE, hooks::STICK, hooks::TABLE, hooks::GIVEN, hooks::BY_PROBE],
+        ("thermal", "exponential") => {
+            &[hooks::AT, hooks::POWER, hooks::STICK, hooks::GRADE, hooks::BY_PROBE]
         }
-        ("thermal", _) => &[hooks::AT, hooks::STICK, hooks::GRADE],
-        ("mass", _) => &[hooks::STICK, hooks::GRADE, hooks::TABLE],
+        ("thermal", "numbered" | "expansion" | "volume_at_temperature") => {
+            &[hooks::STICK, hooks::GRADE, hooks::BY_PROBE]
+        }
+        ("thermal", _) => &[hooks::AT, hooks::STICK, hooks::GRADE, hooks::BY_PROBE],
+        ("mass", _) => &[hooks::STICK, hooks::GRADE, hooks::TABLE, hooks::BY_PROBE],
+        ("permitted", "of") => &[hooks::BY_PROBE],
+        ("probe", "work_out") => &[],
+        ("probe", _) if is_of_number(point) => &[hooks::READING, hooks::PROBE],
+        ("probe", _) => &[hooks::PROBE],
         ("listing", "write_grades") => &[hooks::GRADE],
         ("train", _) => keys_of_train(point),
         _ => &[],
     }
+}
+
+/// Whether a point of the probe stands where one number is taken, and not where three are or a car is.
+fn is_of_number(point: &Point) -> bool {
+    let of_more = ["let level", "let temperature", "let density", "Ok(SetTenths"];
+    let of_set = of_more.iter().any(|start| point.code.starts_with(start));
+    matches!(point.function, "tenths" | "take_apart") && !of_set
 }
 
 fn keys_of_train(point: &Point) -> &'static [usize] {
@@ -53,14 +70,18 @@ fn keys_of_train(point: &Point) -> &'static [usize] {
         ("add", "statement") => &[hooks::GRADE, hooks::CAR],
         ("subtract", "statement") => &[hooks::GRADE, hooks::STRIKE, hooks::PLACE],
         ("add" | "subtract", _) => &[hooks::GRADE],
-        ("enter_sound", "statement") if by_grade => &[hooks::GRADE, hooks::CAR],
-        ("enter_sound", "statement") if point.code.starts_with("ensure(self.held") => &[],
-        ("enter_sound", "statement") => &[hooks::CAR],
+        ("enter_sound", "statement") if by_grade => &[hooks::GRADE, hooks::CAR, hooks::BY_PROBE],
+        ("enter_sound", "statement") if point.code.starts_with("ensure(self.held") => {
+            &[hooks::BY_PROBE]
+        }
+        ("enter_sound", "statement") => &[hooks::CAR, hooks::BY_PROBE],
         ("strike_sound", "statement") if by_grade => &[hooks::GRADE, hooks::STRIKE, hooks::PLACE],
         ("strike_sound", "statement") if point.code.starts_with("self.places[") => &[hooks::PLACE],
         ("strike_sound", "statement") => &[hooks::STRIKE, hooks::PLACE],
-        ("enter_sound" | "strike_sound", _) if by_grade => &[hooks::GRADE],
-        ("enter" | "strike" | "enter_sound" | "strike_sound" | "place_of" | "default", _) => &[],
+        ("enter_sound", _) if by_grade => &[hooks::GRADE, hooks::BY_PROBE],
+        ("strike_sound", _) if by_grade => &[hooks::GRADE],
+        ("enter_sound" | "enter_measured", _) => &[hooks::BY_PROBE],
+        ("enter" | "enter_probe" | "strike" | "strike_sound" | "place_of" | "default", _) => &[],
         _ => &[hooks::HANDED_IN],
     }
 }
@@ -83,6 +104,9 @@ fn ranges(key: usize) -> Vec<(u32, u32)> {
         hooks::STRIKE => [1, 2, 3, 4, 16, 30, 32, 59, 60].map(|n| (n, n)).to_vec(),
         hooks::PLACE => vec![(1, 1), (2, 2), (3, 3), (4, 60), (30, 30), (59, 59), (60, 60)],
         hooks::HANDED_IN => each(hooks::TO_ENTER..=hooks::TO_STRIKE),
+        hooks::READING => each(hooks::LEVEL..=hooks::DENSITY),
+        hooks::PROBE => each(hooks::ONE..=hooks::PERMITTED),
+        hooks::BY_PROBE => each(1..=1),
         _ => {
             each(1..=60).into_iter().chain([(61, 61), (61, 120), (119, 119), (120, 120)]).collect()
         }
@@ -111,9 +135,12 @@ fn contexts(point: &Point) -> Vec<Context> {
     found
 }
 
-/// Whether a wrong way is tried in a context: some are for fields, some for one line, some for all lines.
+/// Whether a wrong way is tried in a context: some are for fields, some for one line, some for all lines,
+/// some for a probe's cars alone.
 fn is_tried(name: &str, context: Context) -> bool {
     match context.key {
+        hooks::ALWAYS | hooks::BY_PROBE => true,
+        _ if name.ends_with("as handed over") => false,
         hooks::FIELD => name.starts_with("each field"),
         hooks::LINE | hooks::ANSWER => {
             !name.starts_with("each field") && !name.starts_with("all lines")
@@ -132,12 +159,19 @@ pub fn all() -> Vec<Mutant> {
             places.map(move |place| Mutant::Point(point, choice + 1, place))
         })
     });
-    let orders = hooks::ORDERS.iter().flat_map(|order| {
-        order.iter().enumerate().flat_map(|(place, &first)| {
-            order[place + 1..].iter().map(move |&second| Mutant::Order(first, second))
-        })
-    });
-    of_points.chain(orders).collect()
+    of_points.chain((0..hooks::ORDERS.len()).flat_map(exchanged)).collect()
+}
+
+/// Every two refusals of an order in the other one; 7 and 8 are tested line by line.
+fn exchanged(order: usize) -> Vec<Mutant> {
+    let refusals = hooks::ORDERS[order].refusals;
+    let behind = |place: usize| refusals[place + 1..].iter();
+    let pairs = (0..refusals.len())
+        .flat_map(|place| behind(place).map(move |&second| (refusals[place], second)));
+    pairs
+        .filter(|pair| *pair != (7, 8))
+        .map(|(first, second)| Mutant::Order(order, first, second))
+        .collect()
 }
 
 impl fmt::Display for Mutant {
@@ -150,8 +184,25 @@ impl fmt::Display for Mutant {
                 let way = here.choices[choice - 1];
                 write!(to, "{module}.{function} | {code} | {} -> {way} | {context}", here.what)
             }
-            Self::Order(first, second) => write!(to, "order | {first} directly after {second} | |"),
+            Self::Order(order, first, second) => {
+                write!(to, "order | {first} directly after {second} | |")?;
+                match hooks::ORDERS[order].probe {
+                    0 => Ok(()),
+                    probe => write!(to, " {}", probe_text(probe)),
+                }
+            }
         }
+    }
+}
+
+/// What a probe's numbers are handed over for.
+fn probe_text(number: u32) -> &'static str {
+    match number {
+        hooks::ONE => "a probe's reading",
+        hooks::SET => "a probe's set",
+        hooks::ALONE => "a probe's car alone",
+        hooks::ENTERED => "a probe's car entered",
+        _ => "a probe's car with errors",
     }
 }
 
@@ -179,6 +230,11 @@ impl fmt::Display for Context {
             hooks::TAPE => write!(to, "tape readings {low}"),
             hooks::HANDED_IN if low == hooks::TO_ENTER => write!(to, "handed in with a car"),
             hooks::HANDED_IN => write!(to, "handed in with a strike"),
+            hooks::READING => {
+                write!(to, "{}", ["", "level", "temperature", "density"][low as usize])
+            }
+            hooks::PROBE => write!(to, "{}", probe_text(low)),
+            hooks::BY_PROBE => write!(to, "a probe's car"),
             hooks::STRIKE => write!(to, "strike {low}"),
             hooks::PLACE if low == high => write!(to, "place {low}"),
             hooks::PLACE => write!(to, "place {low} to {high}"),

@@ -2,10 +2,12 @@
 
 use reference::car::{Car, FIELDS};
 use reference::conformance::vectors::{self, permitted::Vector};
-use reference::permitted::ERRORS;
+use reference::permitted::{Errors, PermittedError, ERRORS};
+use reference::refusal::Refusal;
 
 use crate::draw::Draw;
 use crate::hooks;
+use crate::tables;
 use crate::turned;
 
 /// What a caller sees: the figures, the limit and whether it is within, or the refusal.
@@ -21,24 +23,27 @@ macro_rules! seen {
     };
 }
 
+pub fn shown(answer: Result<PermittedError, Refusal>) -> Vec<u8> {
+    seen!(answer)
+}
+
+pub fn shown_turned(answer: Turned) -> Vec<u8> {
+    seen!(answer)
+}
+
 pub fn right(vector: &Vector) -> Vec<u8> {
-    seen!(vector.work_out())
+    shown(vector.work_out())
 }
 
 pub fn turned(vector: &Vector) -> Vec<u8> {
-    seen!(hooks::reordered(|| work_out(vector)))
+    shown_turned(hooks::reordered(|| work_out(vector)))
 }
 
-fn work_out(
-    vector: &Vector,
-) -> Result<turned::permitted::PermittedError, turned::refusal::Refusal> {
-    let mut tables = turned::table::Tables::new();
-    for table in &vector.tables {
-        tables.begin(table.car_type, table.announced)?;
-        for row in &table.rows {
-            tables.add(turned::table::Row { level: row.level, capacity: row.capacity })?;
-        }
-    }
+/// What the rewritten copy answers.
+type Turned = Result<turned::permitted::PermittedError, turned::refusal::Refusal>;
+
+fn work_out(vector: &Vector) -> Turned {
+    let tables = tables::turned(&vector.tables)?;
     let car = turned::car::Car::from(<[u32; FIELDS]>::from(vector.car));
     let errors = turned::permitted::Errors::from(<[u32; ERRORS]>::from(vector.errors));
     turned::permitted::work_out(&car, &tables, &errors)
@@ -56,17 +61,21 @@ pub fn drawn(count: u64) -> impl Iterator<Item = Vector> {
         vector.car.given = 2;
         vector.car.temperature = draw.between(400, 900);
         vector.car.density = draw.between(9_000, 9_900);
-        vector.errors = [10_000, 10_000, 10_000, 20, 20, 100]
-            .map(|highest| {
-                let top = [0, highest / 10, highest, highest + 1][draw.between(0, 3) as usize];
-                draw.between(0, top)
-            })
-            .into();
+        vector.errors = draw_errors(&mut draw);
         if draw.between(0, 3) == 0 {
             pass_32_bits(&mut vector.car, &mut draw);
         }
         vector
     })
+}
+
+/// Errors by lot, now and then one that is out of its range.
+pub fn draw_errors(draw: &mut Draw) -> Errors {
+    let highest = [10_000, 10_000, 10_000, 20, 20, 100];
+    Errors::from(highest.map(|highest| {
+        let top = [0, highest / 10, highest, highest + 1][draw.between(0, 3) as usize];
+        draw.between(0, top)
+    }))
 }
 
 /// Makes the water level or the readings so large that ten times them, ten times the readings' sum or twice

@@ -1,11 +1,13 @@
 //! A train that is handed in with a car or a strike, as the reference and its rewritten copy answer it.
 
-use reference::car::{Car, FIELDS, GRADES};
+use reference::car::{Car, Figures, FIELDS, GRADES};
 use reference::conformance::vectors::train::{table, Vector};
+use reference::refusal::Refusal;
 use reference::sheet::Event;
 use reference::train::{Place, Totals, Train, CARS};
 
 use crate::draw::Draw;
+use crate::tables;
 use crate::turned;
 
 /// The numbers that a caller sees of a train: its totals, how many cars it holds, and its places.
@@ -44,20 +46,30 @@ pub fn turned(vector: &Vector) -> Vec<u8> {
     bytes(answered!(answer), numbers!(train))
 }
 
+/// What is seen where a car was entered.
+pub fn shown((answer, train): (Result<Figures, Refusal>, Train)) -> Vec<u8> {
+    bytes(answered!(answer.map(Some)), numbers!(train))
+}
+
+/// The same of the rewritten copy, which enters a car in the train that is handed in.
+pub fn shown_turned(
+    handed_in: &Train,
+    enter: impl FnOnce(&mut turned::train::Train) -> Entered,
+) -> Vec<u8> {
+    let mut train = copy(handed_in);
+    let answer = enter(&mut train);
+    bytes(answered!(answer.map(Some)), numbers!(train))
+}
+
 fn bytes(answer: [u32; 7], train: impl Iterator<Item = u64>) -> Vec<u8> {
     answer.map(u64::from).into_iter().chain(train).flat_map(u64::to_ne_bytes).collect()
 }
 
-fn enter(
-    train: &mut turned::train::Train,
-    car: Car,
-) -> Result<turned::car::Figures, turned::refusal::Refusal> {
-    let table = table();
-    let mut tables = turned::table::Tables::new();
-    tables.begin(table.car_type, table.announced)?;
-    for row in &table.rows {
-        tables.add(turned::table::Row { level: row.level, capacity: row.capacity })?;
-    }
+/// What the rewritten copy answers where a car is entered.
+type Entered = Result<turned::car::Figures, turned::refusal::Refusal>;
+
+fn enter(train: &mut turned::train::Train, car: Car) -> Entered {
+    let tables = tables::turned(&[table()])?;
     train.enter(&turned::car::Car::from(<[u32; FIELDS]>::from(car)), &tables)
 }
 
@@ -81,14 +93,11 @@ fn copy(train: &Train) -> turned::train::Train {
 /// The first car of the paper's sheet, which the table takes.
 const CAR: [u32; FIELDS] = [50_000_001, 1, 3, 1, 2, 1500, 1500, 0, 0, 0, 600, 9500, 50, 20];
 
-/// Trains by lot with a car or a strike, half of them with one number of their totals changed.
+/// Trains by lot with a car or a strike.
 pub fn drawn(count: u64) -> impl Iterator<Item = Vector> {
     (0..count).map(|seed| {
         let mut draw = Draw::new(seed);
-        let mut train = draw_train(&mut draw);
-        if draw.between(0, 1) == 0 {
-            spoil(&mut draw, &mut train);
-        }
+        let train = draw_handed_in(&mut draw);
         let place = match draw.between(0, 2) {
             0 => draw.between(1, CARS as u32),
             _ => draw.between(1, train.held.clamp(1, CARS) as u32),
@@ -103,6 +112,15 @@ pub fn drawn(count: u64) -> impl Iterator<Item = Vector> {
         };
         Vector { name: format!("train by lot {seed}"), train, asked }
     })
+}
+
+/// A train by lot, in half of them with one number of the totals changed.
+pub fn draw_handed_in(draw: &mut Draw) -> Train {
+    let mut train = draw_train(draw);
+    if draw.between(0, 1) == 0 {
+        spoil(draw, &mut train);
+    }
+    train
 }
 
 /// A train that its held cars make, mostly of few cars, with something in its free places; one in three has

@@ -1,5 +1,5 @@
 //! Trying a wrong program on sheets, on cars with given errors, on laboratories' reports, on levels, on
-//! sticks set against the tape and on trains that are handed in.
+//! sticks set against the tape, on trains that are handed in and on a probe's numbers and cars.
 
 use std::panic::{self, AssertUnwindSafe};
 
@@ -10,6 +10,7 @@ use reference::conformance::vectors::train::Vector as HandedIn;
 use crate::hooks;
 use crate::laboratory::Reports;
 use crate::mutants::{contexts_of, Mutant};
+use crate::probe::Asked;
 use crate::{permitted, stick, tape, train, turned, POINTS};
 
 /// What a program is asked.
@@ -22,6 +23,8 @@ enum Question {
     StickAgainstTape(Check),
     /// A train with a car or a strike.
     Train(Box<HandedIn>),
+    /// A probe's numbers or car.
+    Probe(Asked),
 }
 
 impl Question {
@@ -34,6 +37,7 @@ impl Question {
             Self::Allowance(level) => tape::right(*level),
             Self::StickAgainstTape(check) => stick::right(check),
             Self::Train(handed_in) => train::right(handed_in),
+            Self::Probe(asked) => asked.right(),
         }
     }
 
@@ -46,6 +50,7 @@ impl Question {
             Self::Allowance(level) => tape::turned(*level),
             Self::StickAgainstTape(check) => stick::turned(check),
             Self::Train(handed_in) => train::turned(handed_in),
+            Self::Probe(asked) => asked.turned(),
         }
     }
 }
@@ -90,6 +95,11 @@ impl Trial {
         Self::of(handed_in.name.clone(), Question::Train(handed_in.into()))
     }
 
+    /// A probe's numbers or car, and what comes of them.
+    pub fn of_probe(asked: Asked) -> Self {
+        Self::of(asked.name(), Question::Probe(asked))
+    }
+
     /// # Panics
     ///
     /// If the rewritten program, with nothing gone wrong, does not give the reference's answer.
@@ -108,7 +118,15 @@ impl Trial {
             Mutant::Point(point, _, place) => {
                 POINTS[point].function.is_empty() || self.met[point] >> place & 1 == 1
             }
-            Mutant::Order(..) => true,
+            Mutant::Order(order, ..) => hooks::ORDERS[order].probe == self.probe(),
+        }
+    }
+
+    /// What a probe's numbers are handed over for in it, or 0.
+    fn probe(&self) -> u32 {
+        match &self.question {
+            Question::Probe(asked) => asked.probe(),
+            _ => 0,
         }
     }
 
@@ -129,10 +147,10 @@ pub fn caught_by(mutant: Mutant, trials: &[Trial], order: &[usize]) -> Option<us
         Mutant::Point(point, choice, place) => {
             hooks::go_wrong(point, choice, contexts_of(point)[place]);
         }
-        Mutant::Order(first, second) => hooks::exchange(first, second),
+        Mutant::Order(order, first, second) => hooks::exchange(order, first, second),
     }
     let found = order.iter().position(|&place| trials[place].catches(mutant));
     hooks::go_wrong(hooks::NONE, 0, contexts_of(0)[0]);
-    hooks::exchange(0, 0);
+    hooks::exchange(0, 0, 0);
     found
 }

@@ -1,8 +1,9 @@
 //! The longer wrong ways, which the edits name.
 
 use crate::hooks;
-use crate::turned::car::{Car, Figures};
+use crate::turned::car::{Car, Figures, Measured};
 use crate::turned::field;
+use crate::turned::level::Taken;
 use crate::turned::refusal::Refusal;
 use crate::turned::sheet::{Event, Sheet};
 use crate::turned::table::{Table, Tables};
@@ -210,7 +211,7 @@ pub fn by_history<'a>(sheet: &'a Sheet, lines: impl Fn(usize) -> &'a [Event]) ->
         };
         let strikes =
             |other: &Event| matches!(other, Event::Strike(number) if *number == car.number);
-        match train.enter_sound(car, &sheet.tables) {
+        match train.enter_sound(&Measured::from(car), &sheet.tables) {
             Ok(figures) if !lines(line).iter().any(strikes) => {
                 sum = [sum[0] + 1, sum[1] + figures.gross, sum[2] + figures.net];
             }
@@ -484,13 +485,13 @@ pub fn holds(train: &Train, number: u32) -> bool {
 }
 
 /// The refusals of a car in a train from 10 on.
-pub fn later_than_9(train: &Train, car: &Car, tables: &Tables) -> Result<(), Refusal> {
+pub(crate) fn later_than_9(train: &Train, car: &Measured, tables: &Tables) -> Result<(), Refusal> {
     car.check_number()?;
     later_than_10(train, car, tables)
 }
 
 /// The refusals of a car in a train from 11 on.
-pub fn later_than_10(train: &Train, car: &Car, tables: &Tables) -> Result<(), Refusal> {
+pub(crate) fn later_than_10(train: &Train, car: &Measured, tables: &Tables) -> Result<(), Refusal> {
     if holds(train, car.number) {
         return Err(Refusal::CarTwice);
     }
@@ -518,12 +519,12 @@ pub fn dug_up(place: Place) -> Place {
 }
 
 /// An accepted car as a train holds it.
-pub fn place(car: &Car, figures: &Figures) -> Place {
+pub(crate) fn place(car: &Measured, figures: &Figures) -> Place {
     Place { number: car.number, grade: car.grade, gross: figures.gross, net: figures.net }
 }
 
 /// Puts a car in the place of the held one that has its number.
-pub fn replace(train: &mut Train, car: &Car, tables: &Tables) {
+pub(crate) fn replace(train: &mut Train, car: &Measured, tables: &Tables) {
     let behind: Vec<Place> =
         held(train).skip_while(|place| place.number != car.number).skip(1).copied().collect();
     let _ = train.strike_sound(car.number);
@@ -598,4 +599,12 @@ pub fn in_bits(train: &Train, counts: u32, masses: u32) -> Train {
         net: of.net & (u64::MAX >> (64 - masses)),
     };
     Train { all: cut(train.all), grades: train.grades.map(cut), ..train.clone() }
+}
+
+/// How many readings a car has, and which; none where a probe took its level.
+pub(crate) fn dip(car: &Measured) -> (u32, [u32; 4]) {
+    match car.level {
+        Taken::Dipped { given, readings } => (given, readings),
+        Taken::Probed(_) => (0, [0; 4]),
+    }
 }
