@@ -4,10 +4,11 @@
  *
  * Every function but rack_answer_sheet hands back
  *   0                 the operation's figures stand in the places that were lent for them;
- *   2 to 30           the refusal of this number (README.md), the first that applies;
+ *   2 to 32           the refusal of this number (README.md), the first that applies;
  *   RACK_BAD_LENGTH   a slice has not the length that is asked for;
  *   RACK_BAD_LETTER   a byte is no letter of a line (rack_write_line only).
- * Beside any number but 0 nothing is written, but for what rack_train_enter says of its train.
+ * Beside any number but 0 nothing is written, but for what rack_train_enter and rack_train_enter_probe say
+ * of their train.
  *
  * Slices: an address and how many numbers or bytes stand there. A length in the name of a constant,
  * as [RACK_PLACES], is the only one that is taken; it is compared before anything else, and with a
@@ -19,16 +20,18 @@
  * Threads: nothing is kept after a call and no memory is asked for, so calls from several threads at
  * once do not disturb each other.
  * Stack: 32,768 bytes are enough for every function; rack_answer_sheet takes about 25,500 of them,
- * rack_permitted_error about 14,000, rack_train_enter and rack_train_strike about 3,000, each other
- * function less than 2,000.
+ * rack_permitted_error_probe about 14,000, rack_train_enter, rack_train_enter_probe and rack_train_strike
+ * about 3,000, each other function less than 2,000.
  *
  * Units: a mean level, a stick level and the level of the tape allowance in 0.1 mm; readings, those of the
  * tape too, water levels and the levels of a table's rows in mm; capacities in dm3 at 20 C, volumes in
  * 0.01 dm3, temperatures in 0.1 C, densities in 0.1 kg/m3, water, impurities and the share of oil in
  * 0.01 %, masses in kg. Given errors and the permitted error are in 0.0001 %, but errors of temperatures in
- * 0.1 C and of the level in 0.1 mm.
- * A level in 0.1 mm that is handed over by itself, either way, has 64 bits; that of an accepted car is at
- * most 36,000.
+ * 0.1 C and of the level in 0.1 mm. A probe's readings alone are floats, 32-bit IEEE ones: a level in mm, a
+ * temperature in C, a density in kg/m3, which the probe has brought to 15 C; their tenths are in the units
+ * above.
+ * A level in 0.1 mm that is handed over by itself, either way, has 64 bits, a probe's alone 32; that of an
+ * accepted car is at most 36,000.
  */
 #ifndef RACK_H
 #define RACK_H
@@ -52,7 +55,8 @@ extern "C" {
 
 /* Lengths of slices: the numbers of a line, which are those of a car too; readings; readings of the tape;
    the figures of a stick; tables; the places of their rows, 400 for each table; the figures of a car; its
-   given errors; its figures with the permitted error; a train. */
+   given errors; its figures with the permitted error; the numbers of a probe's car; the tenths of a probe's
+   set; a train. */
 #define RACK_FIELDS 14
 #define RACK_READINGS 4
 #define RACK_TAPE_READINGS 20
@@ -62,6 +66,8 @@ extern "C" {
 #define RACK_FIGURES 6
 #define RACK_ERRORS 6
 #define RACK_PERMITTED 8
+#define RACK_PROBE_FIELDS 7
+#define RACK_SET 3
 #define RACK_TRAIN 266
 
 /*
@@ -129,8 +135,8 @@ uint32_t rack_stick_against_tape(uint64_t stick, uint32_t count,
  * Whether `count` tables are turned away by 7 or 8. Table k, from 0 on, has the type types[k] and
  * rows[k] rows, of which row i has the level levels[400 * k + i] and the capacity
  * capacities[400 * k + i]. Lengths: `types` and `rows` [RACK_TABLES], `levels` and `capacities`
- * [RACK_PLACES]. Places that no table uses are not looked at. The four functions below that take
- * tables take them in this way.
+ * [RACK_PLACES]. Places that no table uses are not looked at. Every function below that takes tables
+ * takes them in this way.
  */
 uint32_t rack_check_tables(uint32_t count,
                            const uint32_t *types, size_t types_len,
@@ -203,6 +209,46 @@ uint32_t rack_permitted_error(uint32_t count,
                               uint32_t *figures, size_t figures_len);
 
 /*
+ * A probe's reading, a level in mm, a temperature in C or a density in kg/m3, in tenths of its unit: ten
+ * times the exact binary number, to the nearest whole one, a half going up. So 0.25 gives 3, and so does the
+ * float that is written 0.35, as it lies below that. Minus zero is zero. Refusals 31 (negative, infinite or
+ * not a number), 32 (more than 99,999,999 tenths).
+ */
+uint32_t rack_reading_tenths(float reading, uint32_t *tenths);
+
+/* A probe's set, one reading of each kind: `tenths` [RACK_SET] gets the level in 0.1 mm, the temperature in
+   0.1 C and the density at 15 C in 0.1 kg/m3. Refusals 31 and 32 of the level, then of the temperature, then
+   of the density. */
+uint32_t rack_set_tenths(float level, float temperature, float density,
+                         uint32_t *tenths, size_t tenths_len);
+
+/*
+ * A probe's car alone. `car` [RACK_PROBE_FIELDS] has its car number, type, grade, stick, water level in mm,
+ * water and impurities, and the set has the rest: its level in tenths stands for the mean level. `figures`
+ * as in rack_work_out. Refusals 31 and 32 of the set, before all others, then 7, 8, 10, 12, 13, 16 to 21.
+ */
+uint32_t rack_work_out_probe(uint32_t count,
+                             const uint32_t *types, size_t types_len,
+                             const uint32_t *rows, size_t rows_len,
+                             const uint32_t *levels, size_t levels_len,
+                             const uint32_t *capacities, size_t capacities_len,
+                             const uint32_t *car, size_t car_len,
+                             float level, float temperature, float density,
+                             uint32_t *figures, size_t figures_len);
+
+/* The permitted error beside the mass of a probe's car alone: `car` and set as in rack_work_out_probe,
+   `errors` and `figures` as in rack_permitted_error. Refusals 31, 32, 7, 8, 10, 12, 13, 16 to 21, 24, 25. */
+uint32_t rack_permitted_error_probe(uint32_t count,
+                                    const uint32_t *types, size_t types_len,
+                                    const uint32_t *rows, size_t rows_len,
+                                    const uint32_t *levels, size_t levels_len,
+                                    const uint32_t *capacities, size_t capacities_len,
+                                    const uint32_t *car, size_t car_len,
+                                    float level, float temperature, float density,
+                                    const uint32_t *errors, size_t errors_len,
+                                    uint32_t *figures, size_t figures_len);
+
+/*
  * A train lies in a slice [RACK_TRAIN]: five numbers for all accepted cars, and five for those of each
  * grade, which begin at RACK_TRAIN_GRADE(1) to RACK_TRAIN_GRADE(4); how many cars it holds; and four
  * rows of sixty places, in which the cars stand in the order of their entry: their numbers, their
@@ -241,6 +287,21 @@ uint32_t rack_train_enter(uint32_t *train, size_t train_len,
                           const uint32_t *capacities, size_t capacities_len,
                           const uint32_t *car, size_t car_len,
                           uint32_t *figures, size_t figures_len);
+
+/*
+ * Enters a probe's car in `train` in the same way; dipped cars may stand in it too. `car` and set as in
+ * rack_work_out_probe. Refusals 31, 32, 7 to 13, 16 to 21. With 31 or 32, as with 7 to 11, `train` stays as
+ * it was; with 0 and every other refusal it holds the car as rack_train_enter says.
+ */
+uint32_t rack_train_enter_probe(uint32_t *train, size_t train_len,
+                                uint32_t count,
+                                const uint32_t *types, size_t types_len,
+                                const uint32_t *rows, size_t rows_len,
+                                const uint32_t *levels, size_t levels_len,
+                                const uint32_t *capacities, size_t capacities_len,
+                                const uint32_t *car, size_t car_len,
+                                float level, float temperature, float density,
+                                uint32_t *figures, size_t figures_len);
 
 /*
  * Strikes the car of a number in `train`, which may be any numbers: the number and what stands beside it

@@ -3,11 +3,18 @@
 //!
 //! Each hands back what `include/rack.h` says of it, and takes slices of any length.
 
+pub mod floats;
+pub mod probe;
 pub mod random;
 pub mod slices;
 pub mod stick;
 pub mod train;
 pub mod tuned;
+
+pub use probe::{
+    permitted_error_probe, reading_tenths, set_tenths, train_enter_probe, work_out_probe,
+    PROBE_FIELDS, SET,
+};
 
 /// Handed back where a lent slice has not the length that is asked for.
 pub const BAD_LENGTH: u32 = 1_000;

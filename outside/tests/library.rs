@@ -103,6 +103,8 @@ fn constants_of_the_header() {
         ("FIGURES", outside::FIGURES),
         ("ERRORS", outside::ERRORS),
         ("PERMITTED", outside::PERMITTED),
+        ("PROBE_FIELDS", outside::PROBE_FIELDS),
+        ("SET", outside::SET),
         ("TRAIN", TRAIN),
         ("TRAIN_ACCEPTED", outside::TRAIN_ACCEPTED),
         ("TRAIN_GROSS", outside::TRAIN_GROSS),

@@ -4,19 +4,23 @@
 use std::arch::asm;
 
 use outside::train::state_of;
-use outside::{Tables, ERRORS, FIELDS, FIGURES, PERMITTED, PLACES, STICK, TAPE_READINGS, TRAIN};
+use outside::{
+    Tables, ERRORS, FIELDS, FIGURES, PERMITTED, PLACES, PROBE_FIELDS, SET, STICK, TAPE_READINGS,
+    TRAIN,
+};
 use reference::car::Car;
 use reference::operations::{self, HandedIn};
+use reference::probe::Set;
 use reference::table::Row;
 use reference::train::Train;
 use reference::{sheets, ANSWER_BYTES};
 
 /// Bytes that the header says are enough for all.
 const ENOUGH: usize = 32_768;
-/// What it says of a sheet, of the permitted error and of a train, each with 500 bytes for "about", and of
-/// any other.
+/// What it says of a sheet, of the permitted error of a probe's car and of a train, each with 500 bytes for
+/// "about", and of any other.
 const OF_A_SHEET: usize = 26_000;
-const OF_THE_ERROR: usize = 14_500;
+const OF_A_PROBES_ERROR: usize = 14_500;
 const OF_A_TRAIN: usize = 3_500;
 const OF_ANY_OTHER: usize = 2_000;
 
@@ -38,6 +42,10 @@ const TABLES: Tables = Tables {
     capacities: &ROWS,
 };
 const CAR: [u32; FIELDS] = [99, 1, 3, 1, 2, 9, 9, 0, 0, 3, 600, 9_500, 50, 20];
+
+/// The same car as a probe measures it.
+const PROBED: [u32; PROBE_FIELDS] = [99, 1, 3, 1, 3, 50, 20];
+const MEASURED: Set = Set { level: 8.75, temperature: 60.0, density: 950.0 };
 
 extern "C" fn call(operation: *mut &mut dyn FnMut() -> u32) -> u32 {
     // SAFETY: `stack_of` lends its own.
@@ -118,7 +126,7 @@ fn figures() {
 fn cars_and_trains() {
     let (mut figures, mut permitted) = ([0; FIGURES], [0; PERMITTED]);
     hold("work_out", &mut || outside::work_out(TABLES, &CAR, &mut figures));
-    hold_to(OF_THE_ERROR, "permitted_error", &mut || {
+    hold("permitted_error", &mut || {
         outside::permitted_error(TABLES, &CAR, &[0; ERRORS], &mut permitted)
     });
     let mut train = [1; TRAIN];
@@ -132,6 +140,28 @@ fn cars_and_trains() {
     for held in [1, 60] {
         train = train_of_cars(held);
         hold_to(OF_A_TRAIN, "train_strike", &mut || outside::train_strike(&mut train, held));
+    }
+}
+
+#[test]
+fn the_probe() {
+    let (mut tenths, mut set) = (0, [0; SET]);
+    for reading in [0.0, 1e-45, 1_500.25, 9_999_999.0] {
+        hold("reading_tenths", &mut || outside::reading_tenths(reading, &mut tenths));
+    }
+    hold("set_tenths", &mut || outside::set_tenths(MEASURED, &mut set));
+    let (mut figures, mut permitted) = ([0; FIGURES], [0; PERMITTED]);
+    hold("work_out_probe", &mut || {
+        outside::work_out_probe(TABLES, &PROBED, MEASURED, &mut figures)
+    });
+    hold_to(OF_A_PROBES_ERROR, "permitted_error_probe", &mut || {
+        outside::permitted_error_probe(TABLES, &PROBED, MEASURED, &[0; ERRORS], &mut permitted)
+    });
+    for held in [0, 59] {
+        let mut train = train_of_cars(held);
+        hold_to(OF_A_TRAIN, "train_enter_probe", &mut || {
+            outside::train_enter_probe(&mut train, TABLES, &PROBED, MEASURED, &mut figures)
+        });
     }
 }
 

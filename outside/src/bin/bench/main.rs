@@ -1,10 +1,11 @@
 //! Times the proved code beside the reference and beside a program tuned by hand, on the same
 //! sheets, and a car entered in a train and struck from it, the permitted error of a car, the density at
-//! 15 °C of a report, the tape allowance at a level and a stick against the tape beside the reference's,
-//! in one run of some seconds.
+//! 15 °C of a report, the tape allowance at a level, a stick against the tape and a probe's readings and cars
+//! beside the reference's, in one run of some seconds.
 
 mod laboratory;
 mod permitted;
+mod probe;
 mod sheets;
 mod stick;
 mod tape;
@@ -18,4 +19,5 @@ fn main() {
     laboratory::compare_all();
     tape::compare_all();
     stick::compare_all();
+    probe::compare_all();
 }

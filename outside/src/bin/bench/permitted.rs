@@ -14,7 +14,7 @@ use crate::timing;
 /// The rules' own table and car, and errors that both are worked out with.
 const ROWS: [(u32, u32); 4] = [(0, 0), (1_000, 20_000), (2_000, 50_000), (3_000, 70_000)];
 const CAR: [u32; FIELDS] = [50_000_001, 1, 3, 1, 2, 1_500, 1_500, 0, 0, 0, 600, 9_500, 50, 20];
-const GIVEN: [u32; ERRORS] = [5_000, 1_600, 500, 5, 5, 30];
+pub const GIVEN: [u32; ERRORS] = [5_000, 1_600, 500, 5, 5, 30];
 
 /// Prints a line for a small table and for four full ones.
 pub fn compare_all() {
@@ -27,11 +27,15 @@ pub fn compare_all() {
         "tables", "rows", "proved", "reference", "/ reference"
     );
     compare("small, the rules' own", &[table(1, &ROWS)], CAR);
-    let full: Vec<(u32, u32)> = (0..400).map(|row| (9 * row, 450 * row)).collect();
-    let four: Vec<HandedIn> = (1..=4).map(|car_type| table(car_type, &full)).collect();
     let mut last = CAR;
     last[1] = 4;
-    compare("four full ones, the car on the last", &four, last);
+    compare("four full ones, the car on the last", &four_full_tables(), last);
+}
+
+/// Four tables of 400 rows each, of the types 1 to 4.
+pub fn four_full_tables() -> Vec<HandedIn> {
+    let full: Vec<(u32, u32)> = (0..400).map(|row| (9 * row, 450 * row)).collect();
+    (1..=4).map(|car_type| table(car_type, &full)).collect()
 }
 
 fn table(car_type: u32, rows: &[(u32, u32)]) -> HandedIn {

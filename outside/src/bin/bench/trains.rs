@@ -36,13 +36,14 @@ pub fn compare_all() {
     }
 }
 
-fn tables() -> Vec<HandedIn> {
+/// The rules' own table.
+pub fn tables() -> Vec<HandedIn> {
     let rows: Vec<Row> = ROWS.map(|(level, capacity)| Row { level, capacity }).to_vec();
     vec![HandedIn { car_type: 1, announced: 4, rows }]
 }
 
 /// A train of so many accepted cars, with the numbers 1, 2 and so on.
-fn train(held: usize) -> Train {
+pub fn train(held: usize) -> Train {
     let mut train = Train::default();
     for number in 1..=held as u32 {
         let car = Car { number, ..Car::from(CAR) };
@@ -69,7 +70,7 @@ fn compare_strike(name: &str, train: &Train, number: u32) {
 }
 
 /// Prints the line of a call, each time with a copy of the train, which both must leave alike.
-fn compare(
+pub fn compare(
     name: &str,
     (state, proved): ([u32; TRAIN], impl Fn(&mut [u32; TRAIN]) -> u32),
     (train, reference): (&Train, impl Fn(&mut Train) -> Result<(), reference::Refusal>),

@@ -14,7 +14,7 @@ use crate::tally::{Lent, Tally, LENT};
 pub const SOUND: [u32; FIELDS] = [50_000_001, 1, 3, 1, 2, 9, 9, 0, 0, 3, 600, 9_500, 50, 20];
 
 /// Numbers near the limits of each field of a car.
-const LIMITS: [&[u32]; FIELDS] = [
+pub const LIMITS: [&[u32]; FIELDS] = [
     &[0, 1, 99_999_999, 100_000_000],
     &[0, 1, 2, 4, 5, 9_999],
     &[0, 1, 2, 3, 4, 5],

@@ -7,6 +7,7 @@ mod figures;
 mod laboratory;
 mod lines;
 mod permitted;
+mod probe;
 mod stick;
 mod tables;
 mod tally;
@@ -48,6 +49,10 @@ fn main() -> ExitCode {
         figures::oil_share_any_grade().print(),
         cars::work_out(times).print(),
         permitted::permitted_error(times).print(),
+        probe::reading_tenths(times).print(),
+        probe::set_tenths(times).print(),
+        probe::work_out_probe(times).print(),
+        probe::permitted_error_probe(times).print(),
         trains::train_empty().print(),
         trains::enter_and_strike(times).map(Tally::print).iter().sum(),
     ];

@@ -17,17 +17,18 @@ use crate::tally::{Lent, Tally, LENT};
 const HIGHEST: [u32; ERRORS] = [10_000, 10_000, 10_000, 20, 20, 100];
 
 /// Errors of capacity alone around which n is 5,000 and 6,500.
-const NEAR_LIMITS: [u32; 6] = [4_544, 4_545, 4_546, 5_908, 5_909, 5_910];
+pub const NEAR_LIMITS: [u32; 6] = [4_544, 4_545, 4_546, 5_908, 5_909, 5_910];
 
 /// A table with slopes that differ, and one on which a millimetre is less than a kilogram near 100 t.
-const UNEVEN: [(u32, u32); 5] = [(0, 0), (3, 1), (1_000, 20_000), (2_000, 50_000), (3_000, 70_000)];
-const WIDE: [(u32, u32); 3] = [(0, 0), (1_000, 108_000), (2_000, 109_000)];
+pub const UNEVEN: [(u32, u32); 5] =
+    [(0, 0), (3, 1), (1_000, 20_000), (2_000, 50_000), (3_000, 70_000)];
+pub const WIDE: [(u32, u32); 3] = [(0, 0), (1_000, 108_000), (2_000, 109_000)];
 
 /// A table so flat that V0 is 0 at many levels.
-const FLAT: [(u32, u32); 2] = [(0, 0), (3_600, 1)];
+pub const FLAT: [(u32, u32); 2] = [(0, 0), (3_600, 1)];
 
 /// An answer in lent places: the figures, the limit, and 1 where it is within.
-fn handed(answer: Result<PermittedError, Refusal>, mut lent: Lent) -> (u32, Lent) {
+pub fn handed(answer: Result<PermittedError, Refusal>, mut lent: Lent) -> (u32, Lent) {
     match answer {
         Ok(PermittedError { figures, limit, within, .. }) => {
             let last = [limit as u32, u32::from(within)];
@@ -54,7 +55,7 @@ fn compare(tally: &mut Tally, given: &Given, car: &[u32], errors: &[u32], length
 }
 
 /// Two tables, the first of them with these rows.
-fn with_rows(random: &mut Random, rows: &[(u32, u32)]) -> Given {
+pub fn with_rows(random: &mut Random, rows: &[(u32, u32)]) -> Given {
     let mut given = Given::sound(random, &[rows.len(), 3]);
     for (place, &(level, capacity)) in rows.iter().enumerate() {
         (given.levels[place], given.capacities[place]) = (level, capacity);
@@ -85,14 +86,14 @@ fn around(level: u32, water_level: u32) -> [[u32; FIELDS]; 4] {
 }
 
 /// One error, by its place, and none of the others.
-fn alone(place: usize, error: u32) -> [u32; ERRORS] {
+pub fn alone(place: usize, error: u32) -> [u32; ERRORS] {
     let mut errors = [0; ERRORS];
     errors[place] = error;
     errors
 }
 
 /// Numbers near the limits of an error.
-fn limits(place: usize) -> impl Iterator<Item = u32> {
+pub fn limits(place: usize) -> impl Iterator<Item = u32> {
     let highest = HIGHEST[place];
     [1, highest / 2, highest - 1, highest, highest + 1, 255, 256, 65_536].into_iter().chain(ENDS)
 }
@@ -190,7 +191,7 @@ fn compare_cars(tally: &mut Tally, given: &Given) {
 }
 
 /// Errors of which most are in range.
-fn draw_errors(random: &mut Random) -> [u32; ERRORS] {
+pub fn draw_errors(random: &mut Random) -> [u32; ERRORS] {
     let mut errors = HIGHEST.map(|highest| {
         let top = random.pick(&[0, highest / 3, highest]);
         random.between(0, top)

@@ -1,5 +1,5 @@
-//! Lists of cars and strikes by lot, from the empty train on, and what a train on the way answers where it
-//! is handed in with something changed.
+//! Lists of cars, dipped and a probe's, and strikes by lot, from the empty train on, and what a train on the
+//! way answers where it is handed in with something changed.
 
 use outside::random::Random;
 use outside::train::{state_of, train_of};
@@ -7,9 +7,10 @@ use outside::{FIGURES, TRAIN, TRAIN_HELD, TRAIN_NUMBERS};
 use reference::train::{Train, CARS};
 
 use super::unsound::{shift, TOTALS};
-use super::{compare_enter, compare_strike, Asked, ODD_NUMBERS};
-use crate::cars::{draw, draw_tables};
+use super::{compare_draft, compare_enter, compare_strike, Asked, ODD_NUMBERS};
+use crate::cars::{self, draw_tables};
 use crate::figures::ENDS;
+use crate::probe;
 
 /// Cars and strikes of a list.
 pub const STEPS: u64 = 200;
@@ -37,8 +38,10 @@ pub fn compare(asked: &mut Asked, random: &mut Random) {
         }
         if list.random.below(10) < list.strikes_in_ten {
             list.strike();
-        } else {
+        } else if list.random.one_in(2) {
             list.enter();
+        } else {
+            list.enter_probe();
         }
     }
 }
@@ -46,18 +49,35 @@ pub fn compare(asked: &mut Asked, random: &mut Random) {
 impl List<'_> {
     fn enter(&mut self) {
         let given = draw_tables(self.random);
-        let mut car = draw(self.random, &given);
-        match self.random.below(8) {
-            0 => car[0] = self.state[TRAIN_NUMBERS + self.random.below(CARS)],
-            1 => car[0] = self.random.pick(&self.numbers),
-            _ => {}
-        }
-        self.numbers.push(car[0]);
+        let mut car = cars::draw(self.random, &given);
+        car[0] = self.number(car[0]);
         if self.random.one_in(9) {
             let other = tampered(self.random, &self.state);
             compare_enter(&mut self.asked.entered, &other, &given, &car, FIGURES);
         }
         self.state = compare_enter(&mut self.asked.entered, &self.state, &given, &car, FIGURES);
+    }
+
+    fn enter_probe(&mut self) {
+        let given = draw_tables(self.random);
+        let draft = probe::draw(self.random, &given);
+        let draft = draft.with(0, self.number(draft.fields()[0]));
+        if self.random.one_in(9) {
+            let other = tampered(self.random, &self.state);
+            compare_draft(&mut self.asked.probed, &other, &given, draft);
+        }
+        self.state = compare_draft(&mut self.asked.probed, &self.state, &given, draft);
+    }
+
+    /// The number of the next car: its own, at times one that is held or was handed in before.
+    fn number(&mut self, own: u32) -> u32 {
+        let number = match self.random.below(8) {
+            0 => self.state[TRAIN_NUMBERS + self.random.below(CARS)],
+            1 => self.random.pick(&self.numbers),
+            _ => own,
+        };
+        self.numbers.push(number);
+        number
     }
 
     fn strike(&mut self) {

@@ -1,5 +1,7 @@
-//! The library's permitted error, laboratory's density, tape allowance, stick against the tape, and trains
-//! handed in with a strike or a car: every line of the files of vectors.
+//! The library's permitted error, laboratory's density, tape allowance, stick against the tape, trains handed
+//! in with a strike or a car, and the portable probe: every line of the files of vectors.
+
+mod probe;
 
 use outside::slices::Slices;
 use outside::train::state_of;
@@ -7,15 +9,23 @@ use outside::{ERRORS, FIELDS, FIGURES, PERMITTED, STICK, TRAIN};
 use reference::conformance::vectors::{all, laboratory, permitted, read, stick, tape, train};
 use reference::sheet::Event;
 use reference::stick::StickCheck;
+use reference::train::Train;
 
-const PERMITTED_ERROR: &str = include_str!("../../conformance/permitted-error.vectors");
-const LABORATORY_DENSITY: &str = include_str!("../../conformance/laboratory-density.vectors");
-const TAPE_ALLOWANCE: &str = include_str!("../../conformance/tape-allowance.vectors");
-const STICK_AGAINST_TAPE: &str = include_str!("../../conformance/stick-against-tape.vectors");
-const TRAIN_STRIKE: &str = include_str!("../../conformance/train-strike.vectors");
+const PERMITTED_ERROR: &str = include_str!("../../../conformance/permitted-error.vectors");
+const LABORATORY_DENSITY: &str = include_str!("../../../conformance/laboratory-density.vectors");
+const TAPE_ALLOWANCE: &str = include_str!("../../../conformance/tape-allowance.vectors");
+const STICK_AGAINST_TAPE: &str = include_str!("../../../conformance/stick-against-tape.vectors");
+const TRAIN_STRIKE: &str = include_str!("../../../conformance/train-strike.vectors");
 
 /// What a place holds before it is lent: no figure.
 const LENT: u32 = 0xa5a5_a5a5;
+
+/// Puts the numbers of a line's answer into lent places.
+fn fill(places: &mut [u32], answer: &str) {
+    for (place, word) in places.iter_mut().zip(answer.split(' ')) {
+        *place = word.parse().expect("a figure");
+    }
+}
 
 /// The number handed back and what the lent places hold, with one more behind them.
 fn permitted_error(vector: &permitted::Vector) -> (u32, [u32; PERMITTED + 1]) {
@@ -32,10 +42,7 @@ fn expected_error(answer: &str) -> (u32, [u32; PERMITTED + 1]) {
     let Some((_, seen)) = answer.split_once(" | ") else {
         return (answer.parse().expect("a refusal"), figures);
     };
-    let seen = seen.replace(" | ", " ").replace("yes", "1").replace("no", "0");
-    for (figure, word) in figures.iter_mut().zip(seen.split(' ')) {
-        *figure = word.parse().expect("a figure");
-    }
+    fill(&mut figures, &seen.replace(" | ", " ").replace("yes", "1").replace("no", "0"));
     (0, figures)
 }
 
@@ -117,22 +124,20 @@ fn train_strike(vector: &train::Vector) -> Entered {
 }
 
 /// The same from a line's answer: K, or A and figures, or a refusal; then the train, which as a question
-/// with any strike is read as such.
-fn expected_train(vector: &train::Vector, answer: &str) -> Entered {
+/// with any strike is read as such, or that which was handed in.
+fn expected_train(handed_in: &Train, answer: &str) -> Entered {
     let (answer, next) = answer.split_once(" | ").expect("an answer and a train");
     let mut figures = [LENT; FIGURES + 1];
     let number = match answer.strip_prefix("A ") {
         Some(seen) => {
-            for (figure, word) in figures.iter_mut().zip(seen.split(' ')) {
-                *figure = word.parse().expect("a figure");
-            }
+            fill(&mut figures, seen);
             0
         }
         None if answer == "K" => 0,
         None => answer.parse().expect("a refusal"),
     };
     let state = match next {
-        "unchanged" => state_of(&vector.train),
+        "unchanged" => state_of(handed_in),
         _ => state_of(&read::<train::Vector>(&format!("next | {next} | K 0 | -"))[0].0.train),
     };
     (number, figures, state)
@@ -179,6 +184,6 @@ fn every_line_of_the_strikes_and_cars_of_a_train() {
     let vectors = read::<train::Vector>(TRAIN_STRIKE);
     assert_eq!(vectors.len(), all::<train::Vector>().len());
     for (vector, answer) in vectors {
-        assert_eq!(train_strike(&vector), expected_train(&vector, answer), "{}", vector.name);
+        assert_eq!(train_strike(&vector), expected_train(&vector.train, answer), "{}", vector.name);
     }
 }

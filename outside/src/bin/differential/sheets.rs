@@ -1,13 +1,9 @@
-//! Answers generated sheets with the proved code and with the reference, and compares both to the
-//! byte: `differential [COUNT [FIRST_SEED]]`. Ends with status 1 at the first difference.
-
-use std::process::ExitCode;
+//! Generated sheets: the length, the number handed back, and every byte of the buffer and around it.
 
 use outside::random::mix;
 use reference::{sheets, ANSWER_BYTES};
 
-/// Sheets that are compared where the caller names no count.
-const SHEETS: u64 = 20_000;
+use crate::on_every_core;
 
 /// Bytes on both sides of the answer buffer, which no program may touch.
 const MARGIN: usize = 64;
@@ -19,34 +15,17 @@ const NUMBERS: usize = 31;
 /// has just room (120 A lines and 60 K lines), and as long as was asked for before there were strikes.
 const TOO_SHORT: [usize; 4] = [ANSWER_BYTES - 1, ANSWER_BYTES - 4 * 38, 7_561, 3_541];
 
-fn main() -> ExitCode {
-    let arguments: Vec<String> = std::env::args().skip(1).collect();
-    let numbers: Option<Vec<u64>> = arguments.iter().map(|text| text.parse().ok()).collect();
-    let (count, first) = match numbers.as_deref() {
-        Some([]) => (SHEETS, 0),
-        Some([count]) => (*count, 0),
-        Some([count, first]) => (*count, *first),
-        _ => {
-            eprintln!("usage: differential [COUNT [FIRST_SEED]]");
-            return ExitCode::from(2);
-        }
-    };
-
-    let workers = std::thread::available_parallelism().map_or(1, |cores| cores.get() as u64);
-    let tallies: Option<Vec<Tally>> = std::thread::scope(|scope| {
-        let started: Vec<_> = (0..workers)
-            .map(|worker| {
-                let places = (worker..count).step_by(workers as usize);
-                scope.spawn(move || compare(places.map(|place| first.wrapping_add(place))))
-            })
-            .collect();
-        started.into_iter().map(|worker| worker.join().expect("a worker ends")).collect()
+/// Compares so many sheets, from a seed on, and prints what was seen; whether all were answered alike.
+pub fn compare_some(count: u64, first: u64) -> bool {
+    let tallies = on_every_core(|worker, workers| {
+        let places = (worker as u64..count).step_by(workers);
+        compare(places.map(|place| first.wrapping_add(place)))
     });
     let Some(tallies) = tallies else {
-        return ExitCode::FAILURE;
+        return false;
     };
     tallies.iter().fold(Tally::default(), Tally::with).print();
-    ExitCode::SUCCESS
+    true
 }
 
 /// Compares the sheets of some seeds, up to the first difference, of which it tells.
