@@ -22,7 +22,7 @@ use Rattle.kilograms.specs.Inner.{mostColdVolume}
 use Rattle.kilograms.specs.Steps as steps
 use Rattle.kilograms.proofs.Bounds.{stickCoefficient-most, hotVolume-most, coldVolume-most}
 use Rattle.car.specs.declared.Measured.{Measured}
-use Rattle.car.specs.Measured.{gross, net, v0, v15From, mass, measuredTests, sixFigures}
+use Rattle.car.specs.Measured.{gross, net, v0, v15From, mass, sixFigures}
 use Rattle.car.specs.Car.{Intake, intakeNumber, beforeTests, measuredOf, carTests, figuresOf}
 use Rattle.car.proofs.Answers.{before-numbered, own-numbered}
 use Rattle.car.specs.Inner.{Passed}

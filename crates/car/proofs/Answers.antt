@@ -2,7 +2,7 @@
 use Prim.Native.Nat.{ℕ}
 use mathlib.Core.Path.{_≡_, refl, sym, ap, _∙_}
 use mathlib.Core.Bool.{true}
-use mathlib.Core.List.{List, [], _∷_, _++_, append-assoc}
+use mathlib.Core.List.{List, _++_, append-assoc}
 use Rattle.base.specs.Answer.{Test, Verdict, accepts, refuses, first, firstNumber, refusal, answer}
 use Rattle.base.proofs.Answer.{numbered, numbered-append, passed, answer-figures, refuses-append, refused-append, accepted-append, accepted-parts}
 use Rattle.probe_spec.specs.Tenths.{setTests}
@@ -15,8 +15,7 @@ use Rattle.gauging.proofs.Answers.{volume-refused}
 use Rattle.grading.specs.Grades.{codeTests, oilTests}
 use Rattle.car.specs.declared.Measured.{Measured}
 use Rattle.car.specs.Measured.{rows, earlyTests, lateTests, measuredTests, v0, figuresFrom, sixFigures}
-use Rattle.car.specs.Card.{cardTables}
-use Rattle.car.specs.Car.{carOf, numberTests, Intake, dipped, probed, intakeNumber, beforeTests, dipTests, measuredOf, carTests, figuresOf, ownAnswer, aloneTests, aloneAnswer}
+use Rattle.car.specs.Car.{numberTests, Intake, dipped, probed, intakeNumber, beforeTests, dipTests, measuredOf, carTests, figuresOf, ownAnswer, aloneTests, aloneAnswer}
 
 -- the answer by an equal verdict
 by-verdict : (values : List ℕ) {v w : Verdict} → w ≡ v → answer v values ≡ answer w values

@@ -1,7 +1,7 @@
 -- A train whose sums are made by its held cars is told by its rows alone; entering and striking a car leave it so.
-use Prim.Native.Nat.{ℕ, zero, suc, _+_, _-_, _≤_, _<_}
+use Prim.Native.Nat.{ℕ, zero, suc, _+_, _≤_, _<_}
 use mathlib.Core.Path.{_≡_, refl, sym, ap, _∙_}
-use mathlib.Core.List.{List, [], _∷_}
+use mathlib.Core.List.{List, _∷_}
 use native.Mathlib.Omega.{arith}
 use borrow.Author.Tests.{ne-eqb}
 use Rattle.base.specs.Limits.{mostCars}
@@ -12,7 +12,7 @@ use Rattle.summing.specs.Sums.{sumsOf, noSums, sumsWith}
 use Rattle.summing.specs.Inner.{Graded, shownAs}
 use Rattle.summing.proofs.Adding.{sums-none}
 use Rattle.consist.specs.declared.Tally.{Tally}
-use Rattle.consist.specs.Train.{Train, emptyTrain, Held, heldAs, weighed, carAt, carsFrom, carsOf, shownIn, removeAt, withHeld, withoutAt}
+use Rattle.consist.specs.Train.{Train, emptyTrain, Held, heldAs, weighed, carAt, carsFrom, carsOf, shownIn, withHeld, withoutAt}
 use Rattle.consist.specs.Inner.{Sixty, sumsMore, withAnswer}
 use Rattle.consist.specs.Lent.{talliedTrain, lentTrain}
 use Rattle.consist.proofs.Cars.{cars-more, cars-less, sums-taken, shown-snoc}

@@ -1,28 +1,22 @@
 -- A sound train is told by its rows alone; with its sixty places it keeps them, and holds at most sixty numbers, when a car is entered or struck.
 use Prim.Native.Nat.{ℕ, _≤_, _<_}
 use mathlib.Core.Path.{_≡_, refl, ap, _∙_}
-use mathlib.Core.Bool.{Bool, true}
-use mathlib.Core.List.{List, _++_}
+use mathlib.Core.List.{List}
 use native.Mathlib.Omega.{arith}
-use lib.Dec.{leb}
-use lib.ListN.{length}
 use lib.Seq.{length-take-le}
-use borrow.Author.Tests.{leb-false, not-false}
+use borrow.Author.Tests.{not-false}
 use Rattle.base.specs.Limits.{mostCars}
-use Rattle.base.specs.Answer.{Test, Verdict, accepts, refuses, first, Answer}
+use Rattle.base.specs.Answer.{Verdict, accepts, refuses, first, Answer}
 use Rattle.base.specs.Numbers.{member}
-use Rattle.base.proofs.Choice.{neither}
-use Rattle.base.proofs.Answer.{not-applied, accepted-parts}
-use Rattle.table.specs.Table.{Table, tablesTests}
-use Rattle.car.specs.Measured.{gross, net, mass}
-use Rattle.car.specs.Car.{Intake, intakeNumber, beforeTests, measuredOf, carTests}
-use Rattle.summing.specs.Sums.{sumsWith}
-use Rattle.consist.specs.Train.{Train, heldBy, unsound, full, trainTests, admissionTests, carShown, enterAnswer, afterBy, enterTrain, strikeTests, strikeAnswer, position, struckBy, strikeTrain}
+use Rattle.base.proofs.Answer.{not-applied}
+use Rattle.table.specs.Table.{Table}
+use Rattle.car.specs.Car.{Intake}
+use Rattle.consist.specs.Train.{Train, heldBy, enterAnswer, enterTrain, strikeTests, strikeAnswer, position, struckBy, strikeTrain}
 use Rattle.consist.specs.declared.Tally.{Tally}
 use Rattle.consist.specs.Inner.{Sixty, SoundTrain}
 use Rattle.consist.specs.Lent.{talliedTrain, lentTrain}
 use Rattle.consist.proofs.Places.{position-in}
-use Rattle.consist.proofs.Cars.{sixty-more, sixty-less}
+use Rattle.consist.proofs.Cars.{sixty-less}
 use Rattle.consist.proofs.Lent.{lent-made}
 
 -- sixty places, of which at most sixty are taken

@@ -1,5 +1,4 @@
 // A probe's car, its set by three floats: alone, and entered in the running train.
-ghost use mathlib.Core.Path.{_≡_};
 ghost use Rattle.car.specs.Car.{probeCarOf, probed, aloneAnswer};
 ghost use Rattle.consist.specs.Train.{enterAnswer, enterTrain};
 ghost use Rattle.marshalling.specs.Handed.{sized, Handed, figuresLeft};

@@ -1,26 +1,19 @@
 -- `exported_accuracy::rack_permitted_error` meets its contract: the tables, the car and the errors that were copied are those that were lent.
-use mathlib.Core.Path.{_≡_, sym, subst, _∙_}
-use mathlib.Core.List.{List}
+use mathlib.Core.Path.{sym, ap, _∙_}
 use denote.Ref.{now}
-use Rattle.base.specs.Answer.{Answer, refusal}
+use Rattle.base.specs.Answer.{refusal}
 use Rattle.base.proofs.Choice.{never}
 use Rattle.reading.specs.Letter.{mostFields}
-use Rattle.table.specs.Table.{Table}
 use Rattle.car.specs.declared.Car.{Car}
 use Rattle.car.specs.Car.{dipped}
-use Rattle.accuracy.specs.declared.Errors.{Errors}
-use Rattle.accuracy.specs.Permitted.{permittedTold, OnlyAnswer}
+use Rattle.accuracy.specs.Permitted.{permittedTold}
 use Rattle.marshalling.specs.Handed.{figuresLeft}
 use Rattle.marshalling.proofs.Handed.{handed, handed-as, right-sized, wrong-sized}
+use Rattle.exported_accuracy.proofs.Lent.{lent}
 use Rattle.marshalling.proofs.Lengths.{PermittedRight, permitted-lengths, tables-copied}
 use borrow.Author.Needs.{needs}
 use Rattle.exported_accuracy.proofs.rack_permitted_error.Statement.{statement}
 use Rattle.exported_accuracy.proofs.rack_permitted_error.Tie as tie
-
--- the answer for equal tables, car and errors
-lent : {ts us : List Table} {c d : Car} {e f : Errors} {a : Answer} → ts ≡ us → c ≡ d → e ≡ f → OnlyAnswer ts (dipped c) e a → OnlyAnswer us (dipped d) f a
-lent {us} {c} {d} {e} {a} p q r h =
-    subst (λ (x : Errors). OnlyAnswer us (dipped d) x a) r (subst (λ (x : Car). OnlyAnswer us (dipped x) e a) q (subst (λ (x : List Table). OnlyAnswer x (dipped c) e a) p h))
 
 abbrev start : tie.Then1 → tie.Start
 start c = c .before .before .before .before .before .before .before .before .before .before
@@ -75,7 +68,7 @@ returns c =
     let t = e .before in
     record {
       answer = permittedTold (p .permitted-error .result);
-      only = λ _. lent (tables-copied (d .directory-of .ensures) (q .before .all-places .ensures) (q .all-places2 .ensures)) (k .car-of .ensures) (e .errors-of .ensures) (p .permitted-error .ensures .0);
+      only = λ _. lent (tables-copied (d .directory-of .ensures) (q .before .all-places .ensures) (q .all-places2 .ensures)) (ap dipped (k .car-of .ensures)) (e .errors-of .ensures) (p .permitted-error .ensures .0);
       handed = handed-as (h .hand-over-limit .ensures) (right-sized _ (sym (t .before .permitted-fits .ensures) ∙ t .if1 .taken));
     }
 

@@ -1,5 +1,5 @@
 -- `permitting::permitted_error` meets its contract: the car's answer, then the limit beside its figures.
-use mathlib.Core.Path.{_≡_, ap, _∙_}
+use mathlib.Core.Path.{_≡_}
 use mathlib.Core.List.{List}
 use borrow.Author.Needs.{needs}
 use denote.Ref.{now}

@@ -1,6 +1,6 @@
 -- `entering::enter_probed_on` meets its contract: the train's refusals first, then the answer to the probe's car.
 use Prim.Native.Nat.{_<_}
-use mathlib.Core.Path.{_≡_, ap, sym, _∙_}
+use mathlib.Core.Path.{_≡_, ap, _∙_}
 use mathlib.Core.List.{List}
 use borrow.Author.Needs.{needs}
 use denote.Ref.{now}

@@ -1,26 +1,18 @@
 -- `exported_accuracy::rack_permitted_error_probe` meets its contract: the tables, the car and the errors that were copied are those that were lent.
-use mathlib.Core.Path.{_≡_, sym, subst, _∙_}
-use mathlib.Core.List.{List}
+use mathlib.Core.Path.{sym, ap, _∙_}
 use borrow.Author.Needs.{needs}
 use denote.Ref.{now}
-use Rattle.base.specs.Answer.{Answer, refusal}
+use Rattle.base.specs.Answer.{refusal}
 use Rattle.base.proofs.Choice.{never}
-use Rattle.table.specs.Table.{Table}
-use Rattle.car.specs.declared.ProbeCar.{ProbeCar}
 use Rattle.car.specs.Car.{probed}
-use Rattle.accuracy.specs.declared.Errors.{Errors}
-use Rattle.accuracy.specs.Permitted.{permittedTold, OnlyAnswer}
+use Rattle.accuracy.specs.Permitted.{permittedTold}
 use Rattle.marshalling.specs.Handed.{figuresLeft}
 use Rattle.marshalling.specs.Layout.{probeFields}
 use Rattle.marshalling.proofs.Handed.{handed, handed-as, right-sized, wrong-sized}
+use Rattle.exported_accuracy.proofs.Lent.{lent}
 use Rattle.marshalling.proofs.Lengths.{PermittedRight, permitted-lengths, tables-copied}
 use Rattle.exported_accuracy.proofs.probed.rack_permitted_error_probe.Statement.{statement}
 use Rattle.exported_accuracy.proofs.probed.rack_permitted_error_probe.Tie as tie
-
--- the answer for equal tables, car and errors
-lent : {ts us : List Table} {c d : ProbeCar} {e f : Errors} {a : Answer} → ts ≡ us → c ≡ d → e ≡ f → OnlyAnswer ts (probed c) e a → OnlyAnswer us (probed d) f a
-lent {us} {c} {d} {e} {a} p q r h =
-    subst (λ (x : Errors). OnlyAnswer us (probed d) x a) r (subst (λ (x : ProbeCar). OnlyAnswer us (probed x) e a) q (subst (λ (x : List Table). OnlyAnswer x (probed c) e a) p h))
 
 abbrev start : tie.Then1 → tie.Start
 start c = c .before .before .before .before .before .before .before .before .before .before
@@ -75,7 +67,7 @@ returns c =
     let t = e .before in
     record {
       answer = permittedTold (p .permitted-error-probe .result);
-      only = λ _. lent (tables-copied (d .directory-of .ensures) (q .before .all-places .ensures) (q .all-places2 .ensures)) (k .probe-car-of .ensures) (e .errors-of .ensures) (p .permitted-error-probe .ensures .0);
+      only = λ _. lent (tables-copied (d .directory-of .ensures) (q .before .all-places .ensures) (q .all-places2 .ensures)) (ap probed (k .probe-car-of .ensures)) (e .errors-of .ensures) (p .permitted-error-probe .ensures .0);
       handed = handed-as (h .hand-over-limit .ensures) (right-sized _ (sym (t .before .permitted-fits .ensures) ∙ t .if1 .taken));
     }
 
