@@ -1,14 +1,43 @@
 // A probe's car, its set by three floats: alone, and entered in the running train.
+ghost use mathlib.Core.Path.{_≡_};
+ghost use lib.ListN.{length};
 ghost use Rattle.car.specs.Car.{probeCarOf, probed, aloneAnswer};
 ghost use Rattle.consist.specs.Train.{enterAnswer, enterTrain};
 ghost use Rattle.marshalling.specs.Handed.{sized, Handed, figuresLeft};
 ghost use Rattle.marshalling.specs.Layout.{tablesLent, setOf, probeFields, carSized};
+ghost use Rattle.export_probe.specs.Prepared.{PreparedAs};
 ghost use Rattle.trainslice.specs.Layout.{trainOf, trainSized, TrainHanded};
+use car::Probed;
 use marshalling::BAD_LENGTH;
 use marshalling::PROBE_FIELDS;
 use probe_spec::ConvertedSet;
 use probe_spec::ProbeSet;
 use trainslice::TRAIN_PLACES;
+
+// A probe's car whose set is in tenths, or the refusal of its set.
+enum Prepared {
+    Probed(Probed),
+    Refused(u32),
+}
+
+// A probe's car by its seven numbers and its set. It comes before tables are copied, so that a refused set costs no copy.
+fn prepare(car: &[u32], level: f32, temperature: f32, density: f32) -> Prepared
+    requires { ⌜ length (now car) ≡ probeFields ⌝ }
+    ensures { λ r. ⌜ PreparedAs r (probeCarOf (now (car .entry)) (setOf level temperature density)) ⌝ }
+{
+    let set = ProbeSet {
+        level,
+        temperature,
+        density,
+    };
+    match probe::set_tenths(set) {
+        ConvertedSet::Refused(number) => Prepared::Refused(number),
+        ConvertedSet::Tenths(t) => {
+            let fields = marshalling::probe_car_of(car, set);
+            Prepared::Probed(working::probed_of(fields, t))
+        }
+    }
+}
 
 // A probe's car worked out alone: its six figures.
 #[no_mangle]
@@ -30,16 +59,9 @@ pub extern "C" fn rack_work_out_probe(
         r (now (figures .entry)) (now (figures .exit)) ⌝ }
 {
     if marshalling::car_fits(PROBE_FIELDS, types, rows, levels, capacities, car, figures) {
-        let set = ProbeSet {
-            level,
-            temperature,
-            density,
-        };
-        match probe::set_tenths(set) {
-            ConvertedSet::Refused(number) => return number,
-            ConvertedSet::Tenths(t) => {
-                let fields = marshalling::probe_car_of(car, set);
-                let p = working::probed_of(fields, t);
+        match prepare(car, level, temperature, density) {
+            Prepared::Refused(number) => return number,
+            Prepared::Probed(p) => {
                 let d = marshalling::directory_of(count, types, rows);
                 let level_places = marshalling::all_places(levels);
                 let capacity_places = marshalling::all_places(capacities);
@@ -81,16 +103,9 @@ pub extern "C" fn rack_train_enter_probe(
         return BAD_LENGTH;
     }
     if marshalling::car_fits(PROBE_FIELDS, types, rows, levels, capacities, car, figures) {
-        let set = ProbeSet {
-            level,
-            temperature,
-            density,
-        };
-        match probe::set_tenths(set) {
-            ConvertedSet::Refused(number) => return number,
-            ConvertedSet::Tenths(t) => {
-                let fields = marshalling::probe_car_of(car, set);
-                let p = working::probed_of(fields, t);
+        match prepare(car, level, temperature, density) {
+            Prepared::Refused(number) => return number,
+            Prepared::Probed(p) => {
                 let d = marshalling::directory_of(count, types, rows);
                 let level_places = marshalling::all_places(levels);
                 let capacity_places = marshalling::all_places(capacities);

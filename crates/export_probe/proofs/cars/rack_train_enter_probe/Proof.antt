@@ -1,6 +1,6 @@
 -- `export_probe::rack_train_enter_probe` meets its contract: 31 and 32 of the set, or the car entered in the train and on the tables that were lent.
 use Prim.Native.Nat.{ℕ, _<_}
-use mathlib.Core.Path.{_≡_, sym, ap, ap₂, _∙_}
+use mathlib.Core.Path.{_≡_, sym, ap, ap₂, subst, _∙_}
 use mathlib.Core.Bool.{true}
 use mathlib.Core.List.{List}
 use native.Mathlib.Omega.{arith}
@@ -8,7 +8,8 @@ use lib.ListN.{getD}
 use borrow.Author.Tests.{eq-eqb, ne-eqb}
 use borrow.Author.Needs.{needs}
 use denote.Ref.{now}
-use Rattle.probe_spec.proofs.Answers.{set-refused, set-shown}
+use Rattle.base.specs.Answer.{refuses, first}
+use Rattle.probe_spec.specs.Tenths.{setTests}
 use Rattle.table.specs.Table.{Table}
 use Rattle.car.specs.declared.ProbeCar.{ProbeCar}
 use Rattle.car.specs.Car.{probeCarOf, probed}
@@ -22,6 +23,8 @@ use Rattle.marshalling.proofs.Lengths.{CarRight, car-right, tables-copied}
 use Rattle.trainslice.specs.Layout.{half, trainOf, trainNumbers, trainSized}
 use Rattle.trainslice.proofs.Slice.{train-handed, train-left, train-kept}
 use Rattle.trainslice.proofs.Lengths.{train-wrong, train-sized}
+use Rattle.export_probe.specs.declared.cars.Prepared.{Prepared}
+use Rattle.export_probe.specs.Prepared.{PreparedAs}
 use Rattle.export_probe.proofs.cars.rack_train_enter_probe.Statement.{statement}
 use Rattle.export_probe.proofs.cars.rack_train_enter_probe.Tie as tie
 
@@ -57,13 +60,11 @@ low : (c : tie.Then2) (i : ℕ) → getD (now (start c .args .train)) i 0 < half
 low c i = omega (arith, c .before .before .before .before .before .before .before .before .before .before .slice-known .given i)
 
 -- the set comes to tenths, and these are what is measured of the car
-stands : (p : tie.After-probed-of) → let c = p .before .before .before .before .before .before in Stands (p .probed-of .result) (theCar (start c))
-stands p =
-    let f = p .before in
-    let t = f .before .before in
-    let k = t .before .before in
-    let s = start (k .before) in
-    rw (f .probe-car-of .ensures) at (p .probed-of .ensures) (set-shown (setOf (s .args .level) (s .args .temperature) (s .args .density)) (k .set-tenths .ensures) (t .t .given .1))
+stands : (x : tie.After-p) → Stands (x .p .given .0 .0) (theCar (start (x .before .before .before)))
+stands x = let k = x .before .before in subst (λ (r : Prepared). PreparedAs r (theCar (start (k .before)))) (x .p .given .1) (k .prepare .ensures)
+
+refused : (n : tie.After-number) → first (setTests (theCar (start (n .before .before .before)) .set)) ≡ refuses (n .number .given .0 .0)
+refused n = let k = n .before .before in subst (λ (r : Prepared). PreparedAs r (theCar (start (k .before)))) (n .number .given .1) (k .prepare .ensures)
 
 returns : tie.Need-returns
 returns c =
@@ -73,8 +74,8 @@ returns c =
 car-fits-requires : tie.Need-car-fits-requires
 car-fits-requires c κs = search needs
 
-set-tenths-requires : tie.Need-set-tenths-requires
-set-tenths-requires c κs = search needs
+prepare-requires : tie.Need-prepare-requires
+prepare-requires c κs = right c .0
 
 enum-known-number : tie.Need-enum-known-number
 enum-known-number c = search needs
@@ -88,30 +89,24 @@ returns-2 c =
     let k = n .before .before in
     let t = k .before in
     let s = start t in
-    let away = before-away (all s) (running s) (probed (theCar s)) (set-refused (theCar s .set) (k .set-tenths .ensures) (n .number .given .1)) in
+    let away = before-away (all s) (running s) (probed (theCar s)) (refused n) in
     (handed figuresLeft _ (away .0 ∙ right-sized _ (fit t)), train-left (t .before .before .before .if1 .left) (low t) (fit t) (away .1))
 
-enum-known-t : tie.Need-enum-known-t
-enum-known-t c = search needs
-
-probe-car-of-requires : tie.Need-probe-car-of-requires
-probe-car-of-requires c κs = right (c .before .before .before .before) .0
-
-probed-of-requires : tie.Need-probed-of-requires
-probed-of-requires c κs = search needs
+enum-known-p : tie.Need-enum-known-p
+enum-known-p c = search needs
 
 directory-of-requires : tie.Need-directory-of-requires
-directory-of-requires c κs = let r = right (c .before .before .before .before .before .before) in (r .2 .0, r .2 .1)
+directory-of-requires c κs = let r = right (c .before .before .before .before) in (r .2 .0, r .2 .1)
 
 all-places-requires : tie.Need-all-places-requires
-all-places-requires c κs = right (c .before .before .before .before .before .before .before) .2 .2
+all-places-requires c κs = right (c .before .before .before .before .before) .2 .2
 
 all-places-requires-2 : tie.Need-all-places-requires-2
-all-places-requires-2 c κs = right (c .before .before .before .before .before .before .before .before) .2 .3
+all-places-requires-2 c κs = right (c .before .before .before .before .before .before) .2 .3
 
 -- behind the tables and the train that were copied
 abbrev test : tie.After-all-places2 → tie.Then2
-test q = q .before .before .before .before .before .before .before .before .before
+test q = q .before .before .before .before .before .before .before
 
 train-of-requires : tie.Need-train-of-requires
 train-of-requires c κs = test (c .before) .before .before .before .if1 .left
@@ -138,11 +133,11 @@ returns-3 c =
     let e = w .before .before .before in
     let r = e .before .before .before in
     let q = r .before .before in
-    let p = q .before .before .before in
+    let x = q .before .before .before .before in
     let t = test q in
     let s = start t in
     let ts = tables-copied (q .before .before .directory-of .ensures) (q .before .all-places .ensures) (q .all-places2 .ensures) in
-    let k = e .enter-probed .ensures (theCar s) (stands p) in
+    let k = e .enter-probed .ensures (theCar s) (stands x) in
     let next = k .1 ∙ ap₂ (λ (us : List Table) (u : Train). enterTrain us u (probed (theCar s))) ts (r .train-of .ensures) in (
       handed-as (h .hand-over .ensures) (k .0 ∙ ap₂ (λ (us : List Table) (u : Train). enterAnswer us u (probed (theCar s))) ts (r .train-of .ensures) ∙ right-sized _ (fit t)),
       train-handed (t .before .before .before .if1 .left) (low t) (fit t) (w .write-train .ensures .0 ∙ ap trainNumbers next) (w .write-train .ensures .1 ∙ next),
@@ -162,13 +157,11 @@ rack-train-enter-probe-spec =
     (tie.spec
     returns
     car-fits-requires
-    set-tenths-requires
+    prepare-requires
     enum-known-number
     same-length
     returns-2
-    enum-known-t
-    probe-car-of-requires
-    probed-of-requires
+    enum-known-p
     directory-of-requires
     all-places-requires
     all-places-requires-2

@@ -1,10 +1,10 @@
 -- `export_probe::rack_work_out_probe` meets its contract: 31 and 32 of the set, or the answer on the tables that were lent.
-use mathlib.Core.Path.{_≡_, sym, ap, _∙_}
+use mathlib.Core.Path.{_≡_, sym, ap, subst, _∙_}
 use mathlib.Core.List.{List}
 use borrow.Author.Needs.{needs}
 use denote.Ref.{now}
-use Rattle.base.specs.Answer.{Answer}
-use Rattle.probe_spec.proofs.Answers.{set-refused, set-shown}
+use Rattle.base.specs.Answer.{refuses, first, Answer}
+use Rattle.probe_spec.specs.Tenths.{setTests}
 use Rattle.table.specs.Table.{Table}
 use Rattle.car.specs.declared.ProbeCar.{ProbeCar}
 use Rattle.car.specs.Car.{probeCarOf, probed, aloneAnswer}
@@ -14,6 +14,8 @@ use Rattle.marshalling.specs.Handed.{figuresLeft, sized}
 use Rattle.marshalling.specs.Layout.{tablesLent, setOf, probeFields, carSized}
 use Rattle.marshalling.proofs.Handed.{handed, handed-as, right-sized, wrong-sized}
 use Rattle.marshalling.proofs.Lengths.{CarRight, car-right, tables-copied}
+use Rattle.export_probe.specs.declared.cars.Prepared.{Prepared}
+use Rattle.export_probe.specs.Prepared.{PreparedAs}
 use Rattle.export_probe.proofs.cars.rack_work_out_probe.Statement.{statement}
 use Rattle.export_probe.proofs.cars.rack_work_out_probe.Tie as tie
 
@@ -43,19 +45,17 @@ fit : (c : tie.Then1) (a : Answer) → let s = start c .args in
 fit c a = right-sized a (sym (c .before .car-fits .ensures) ∙ c .if1 .taken)
 
 -- the set comes to tenths, and these are what is measured of the car
-stands : (p : tie.After-probed-of) → let c = p .before .before .before .before .before .before in Stands (p .probed-of .result) (theCar (start c))
-stands p =
-    let f = p .before in
-    let t = f .before .before in
-    let k = t .before .before in
-    let s = start (k .before) in
-    rw (f .probe-car-of .ensures) at (p .probed-of .ensures) (set-shown (setOf (s .args .level) (s .args .temperature) (s .args .density)) (k .set-tenths .ensures) (t .t .given .1))
+stands : (x : tie.After-p) → Stands (x .p .given .0 .0) (theCar (start (x .before .before .before)))
+stands x = let k = x .before .before in subst (λ (r : Prepared). PreparedAs r (theCar (start (k .before)))) (x .p .given .1) (k .prepare .ensures)
+
+refused : (n : tie.After-number) → first (setTests (theCar (start (n .before .before .before)) .set)) ≡ refuses (n .number .given .0 .0)
+refused n = let k = n .before .before in subst (λ (r : Prepared). PreparedAs r (theCar (start (k .before)))) (n .number .given .1) (k .prepare .ensures)
 
 car-fits-requires : tie.Need-car-fits-requires
 car-fits-requires c κs = search needs
 
-set-tenths-requires : tie.Need-set-tenths-requires
-set-tenths-requires c κs = search needs
+prepare-requires : tie.Need-prepare-requires
+prepare-requires c κs = right c .0
 
 enum-known-number : tie.Need-enum-known-number
 enum-known-number c = search needs
@@ -69,31 +69,25 @@ returns c =
     let k = n .before .before in
     let t = k .before in
     let s = start t in
-    handed figuresLeft _ (alone-before (all s) (probed (theCar s)) (set-refused (theCar s .set) (k .set-tenths .ensures) (n .number .given .1)) ∙ fit t _)
+    handed figuresLeft _ (alone-before (all s) (probed (theCar s)) (refused n) ∙ fit t _)
 
-enum-known-t : tie.Need-enum-known-t
-enum-known-t c = search needs
-
-probe-car-of-requires : tie.Need-probe-car-of-requires
-probe-car-of-requires c κs = right (c .before .before .before .before) .0
-
-probed-of-requires : tie.Need-probed-of-requires
-probed-of-requires c κs = search needs
+enum-known-p : tie.Need-enum-known-p
+enum-known-p c = search needs
 
 directory-of-requires : tie.Need-directory-of-requires
-directory-of-requires c κs = let r = right (c .before .before .before .before .before .before) in (r .2 .0, r .2 .1)
+directory-of-requires c κs = let r = right (c .before .before .before .before) in (r .2 .0, r .2 .1)
 
 all-places-requires : tie.Need-all-places-requires
-all-places-requires c κs = right (c .before .before .before .before .before .before .before) .2 .2
+all-places-requires c κs = right (c .before .before .before .before .before) .2 .2
 
 all-places-requires-2 : tie.Need-all-places-requires-2
-all-places-requires-2 c κs = right (c .before .before .before .before .before .before .before .before) .2 .3
+all-places-requires-2 c κs = right (c .before .before .before .before .before .before) .2 .3
 
 work-probed-requires : tie.Need-work-probed-requires
 work-probed-requires c κs = search needs
 
 hand-over-requires : tie.Need-hand-over-requires
-hand-over-requires c κs = right (c .before .before .before .before .before .before .before .before .before .before .before .before .before) .1
+hand-over-requires c κs = right (c .before .before .before .before .before .before .before .before .before .before .before) .1
 
 same-length-2 : tie.Need-same-length-2
 same-length-2 c = search needs
@@ -103,11 +97,11 @@ returns-2 c =
     let h = c .before .before in
     let w = h .before .before in
     let q = w .before .before .before in
-    let p = q .before .before .before in
-    let t = p .before .before .before .before .before .before in
+    let x = q .before .before .before .before in
+    let t = x .before .before .before in
     let s = start t in
     handed-as (h .hand-over .ensures)
-    (w .work-probed .ensures (theCar s) (stands p)
+    (w .work-probed .ensures (theCar s) (stands x)
     ∙ ap (λ (ts : List Table). aloneAnswer ts (probed (theCar s))) (tables-copied (q .before .before .directory-of .ensures) (q .before .all-places .ensures) (q .all-places2 .ensures))
     ∙ fit t _)
 
@@ -122,13 +116,11 @@ rack-work-out-probe-spec =
     tie.close
     (tie.spec
     car-fits-requires
-    set-tenths-requires
+    prepare-requires
     enum-known-number
     same-length
     returns
-    enum-known-t
-    probe-car-of-requires
-    probed-of-requires
+    enum-known-p
     directory-of-requires
     all-places-requires
     all-places-requires-2
