@@ -17,7 +17,7 @@ use Rattle.table.specs.Table.{Table, tablesTests, tablesVerdict, unknown, lastL
 use Rattle.table.proofs.Rising.{Rising, tables-rising}
 use Rattle.gauging.specs.Capacity.{above, levelTests}
 use Rattle.gauging.proofs.Capacity.{v0-near, v0-whole, v0ˣ-whole}
-use Rattle.grading.specs.Grades.{gradeBad, stickBad, oilTests}
+use Rattle.grading.specs.Grades.{gradeBad, stickBad, rangeTests, density20Tests, oilTests}
 use Rattle.grading.specs.Inner.{FieldsInRange}
 use Rattle.grading.proofs.Limits.{fields-in-range}
 use Rattle.kilograms.specs.Inner.{InRange}
@@ -89,8 +89,9 @@ module _ (ts : List Table) (m : Measured) (h : Passed ts m) where
   pub fields : FieldsInRange (m .temperature) (m .density .0) (m .water) (m .impurities)
   fields =
       let oil = oilTests (m .grade) (m .temperature) (m .density .0) (m .water) (m .impurities) in
+      let own = rangeTests (m .grade) (m .temperature) (m .density .0) (m .water) (m .impurities) in
       fields-in-range (m .grade) (m .temperature) (m .density .0) (m .water) (m .impurities) (grade-known ts m (h .early))
-      (accepted-parts oil (levelTests (rows ts m) (m .level) (m .«water_level»)) (h .late) .1)
+      (accepted-parts (density20Tests (m .grade) (m .density .0)) own (accepted-parts oil (levelTests (rows ts m) (m .level) (m .«water_level»)) (h .late) .1) .0)
 
   pub rising : Rising (rows ts m)
   rising = tables-rising (m .kind) ts (h .tables) known

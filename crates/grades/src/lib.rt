@@ -16,7 +16,8 @@ mod refusals; // refusals.rt: the limits, and the refusals by their numbers
 
 // For the crate that works out a whole car: the pieces of its list of refusals.
 pub use refusals::code_refusal;
-pub use refusals::oil_refusal;
+pub use refusals::density_20_refusal;
+pub use refusals::range_refusal;
 
 // What is left beside water and impurities, all in 0.01 %; 0 where they are more than all.
 pub fn share_of_oil(water: u32, impurities: u32) -> u32
@@ -43,11 +44,12 @@ pub fn density_at_20_of_grade(grade: u32, density: Density15) -> DensityAt20
     if by_density != 0 {
         return DensityAt20::Refused(by_density);
     }
-    let by_density_20 = refusals::density_20_refusal(grade, density);
+    let oil = thermal::oil_of(density);
+    let by_density_20 = refusals::density_20_refusal(grade, oil);
     if by_density_20 != 0 {
         return DensityAt20::Refused(by_density_20);
     }
-    DensityAt20::Density(thermal::density_20(density))
+    DensityAt20::Density(thermal::density_20(oil))
 }
 
 // The share of oil for a grade, or the first of 13 and 20.

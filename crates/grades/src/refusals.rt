@@ -4,7 +4,7 @@ ghost use mathlib.Core.Bool.{_||_};
 ghost use mathlib.Core.List.{[], _∷_};
 ghost use lib.Dec.{ltb};
 ghost use Rattle.base.specs.Answer.{refuseIf, firstNumber};
-ghost use Rattle.heating.specs.Limits.{DensityInRange};
+ghost use Rattle.heating.specs.Inner.{Known};
 ghost use Rattle.grading.specs.Grades.{
   byGrade,
   gradeTests,
@@ -13,10 +13,11 @@ ghost use Rattle.grading.specs.Grades.{
   contentTests,
   contentTestsAnyGrade,
   density20Tests,
-  oilTests,
+  rangeTests,
 };
 use base::GRADES;
 use heating::Density15;
+use heating::Oil;
 use thermal::HIGHEST_TEMPERATURE;
 
 // By grade, 1 to 4, at index grade - 1: the lowest temperature in 0.1 °C, the most water and impurities in 0.01 %.
@@ -108,10 +109,10 @@ pub(crate) fn content_refusal_any_grade(water: u32, impurities: u32) -> u32
     above_limits(CONTENT, CONTENT, water, impurities)
 }
 
-// 21 for a grade and a density at 15 °C that 19 does not turn away.
-pub(crate) fn density_20_refusal(grade: u32, density: Density15) -> u32
-    requires { ⌜ DensityInRange (density .0) ⌝ }
-    ensures { λ r. ⌜ r ≡ firstNumber (density20Tests grade (density .0)) ⌝ }
+// 21 for a grade and an oil.
+pub fn density_20_refusal(grade: u32, oil: Oil) -> u32
+    requires { ⌜ Known oil ⌝ }
+    ensures { λ r. ⌜ r ≡ firstNumber (density20Tests grade (oil .density .0)) ⌝ }
 {
     if grade < 1 {
         return 0;
@@ -121,22 +122,22 @@ pub(crate) fn density_20_refusal(grade: u32, density: Density15) -> u32
     }
     let i = (grade - 1) as usize;
     let limit = DENSITY_20[i];
-    let at_20 = thermal::density_20(density);
+    let at_20 = thermal::density_20(oil);
     if limit < at_20.0 {
         return 21;
     }
     0
 }
 
-// The first of 18 to 21, of a car's oil: temperature in 0.1 °C, density at 15 °C, water and impurities in 0.01 %.
-pub fn oil_refusal(
+// The first of 18 to 20, of a car's oil: temperature in 0.1 °C, density at 15 °C, water and impurities in 0.01 %.
+pub fn range_refusal(
     grade: u32,
     temperature: u32,
     density: Density15,
     water: u32,
     impurities: u32,
 ) -> u32
-    ensures { λ r. ⌜ r ≡ firstNumber (oilTests grade temperature (density .0) water impurities) ⌝ }
+    ensures { λ r. ⌜ r ≡ firstNumber (rangeTests grade temperature (density .0) water impurities) ⌝ }
 {
     let by_temperature = temperature_refusal(grade, temperature);
     if by_temperature != 0 {
@@ -146,9 +147,5 @@ pub fn oil_refusal(
     if by_density != 0 {
         return by_density;
     }
-    let by_content = content_refusal(grade, water, impurities);
-    if by_content != 0 {
-        return by_content;
-    }
-    density_20_refusal(grade, density)
+    content_refusal(grade, water, impurities)
 }

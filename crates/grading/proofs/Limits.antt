@@ -14,7 +14,7 @@ use Rattle.base.proofs.Choice.{neither}
 use Rattle.base.proofs.Numbers.{inside}
 use Rattle.heating.specs.Limits.{lowestTemperature, highestTemperature}
 use Rattle.heating.proofs.Limits.{density-in-range}
-use Rattle.grading.specs.Grades.{gradeBad, byGrade, lowestTemperatures, waterLimits, impurityLimits, contentLimit, temperatureBad, contentBad, oilTests}
+use Rattle.grading.specs.Grades.{gradeBad, byGrade, lowestTemperatures, waterLimits, impurityLimits, contentLimit, temperatureBad, contentBad, rangeTests}
 use Rattle.grading.specs.Inner.{FieldsInRange}
 
 -- what holds of each entry of a table holds of the entry at an index within it
@@ -49,13 +49,13 @@ content-in-range grade w i g e =
       ltb-false _ i (h .1),
     )
 
--- 18 to 21, after 13
-pub fields-in-range : (grade t r w i : ℕ) → gradeBad grade ≡ false → first (oilTests grade t r w i) ≡ accepts → FieldsInRange t r w i
+-- 18 to 20, after 13
+pub fields-in-range : (grade t r w i : ℕ) → gradeBad grade ≡ false → first (rangeTests grade t r w i) ≡ accepts → FieldsInRange t r w i
 fields-in-range grade t r w i g e =
-    let by18 = temperature-in-range grade t g (not-applied 18 (oilTests grade t r w i) e) in
+    let by18 = temperature-in-range grade t g (not-applied 18 (rangeTests grade t r w i) e) in
     record {
       warm = by18 .0;
       hot = by18 .1;
-      density = density-in-range r (not-applied 19 (oilTests grade t r w i) e);
-      oil = content-in-range grade w i g (not-applied 20 (oilTests grade t r w i) e);
+      density = density-in-range r (not-applied 19 (rangeTests grade t r w i) e);
+      oil = content-in-range grade w i g (not-applied 20 (rangeTests grade t r w i) e);
     }

@@ -73,9 +73,13 @@ density20Bad grade r = cond (outside 1 2 grade) false (ltb (getD density20Limits
 abbrev pub density20Tests : ℕ → ℕ → List Test
 density20Tests grade r = refuseIf 21 (density20Bad grade r) ∷ []
 
--- 18 to 21 of a car's oil: temperature t, density r at 15 °C, water w and impurities i
+-- 18 to 20 of a car's oil: temperature t, density r at 15 °C, water w and impurities i
+abbrev pub rangeTests : ℕ → ℕ → ℕ → ℕ → ℕ → List Test
+rangeTests grade t r w i = temperatureTests grade t ++ densityTests r ++ contentTests grade w i
+
+-- 18 to 21
 abbrev pub oilTests : ℕ → ℕ → ℕ → ℕ → ℕ → List Test
-oilTests grade t r w i = temperatureTests grade t ++ densityTests r ++ contentTests grade w i ++ density20Tests grade r
+oilTests grade t r w i = rangeTests grade t r w i ++ density20Tests grade r
 
 -- step 8: what is left beside water w and impurities i, all in 0.01 %
 abbrev pub oilShare : ℕ → ℕ → ℕ

@@ -6,6 +6,12 @@ pub struct Density15(pub u32);
 
 pub struct Density20(pub u32);
 
+// An oil by its density at 15 °C, with its B of step 4, in 10⁻⁹ per °C: B is found once and handed on.
+pub struct Oil {
+    pub density: Density15,
+    pub expansion: u32,
+}
+
 // B in 10⁻⁹ per °C, or a refusal.
 pub enum Expansion {
     Billionths(u32),

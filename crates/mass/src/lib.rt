@@ -3,6 +3,7 @@
 ghost use mathlib.Core.Path.{_≡_};
 ghost use Prim.Native.Nat.{_≤_};
 ghost use Rattle.heating.specs.Limits.{lowestTemperature, highestTemperature, DensityInRange};
+ghost use Rattle.heating.specs.Inner.{Known};
 ghost use Rattle.kilograms.specs.Steps;
 ghost use Rattle.kilograms.specs.Distance.{greatestVolume};
 ghost use Rattle.kilograms.specs.Inner.{
@@ -13,6 +14,7 @@ ghost use Rattle.kilograms.specs.Inner.{
   mostColdVolume,
 };
 use heating::Density15;
+use heating::Oil;
 use kilograms::Masses;
 
 // Step 3: c for a stick; 0 for a stick that there is not.
@@ -38,12 +40,12 @@ fn hot_volume(v0: u32, c: u32, temperature: u32) -> u32
 }
 
 // Step 7: V15.
-fn cold_volume(vt: u32, density: Density15, temperature: u32) -> u32
-    requires { ⌜ (vt ≤ mostHotVolume) × DensityInRange (density .0) × (lowestTemperature ≤ temperature) × (temperature ≤ highestTemperature) ⌝ }
-    ensures { λ r. ⌜ r ≡ Steps.coldVolume vt (density .0) temperature ⌝ }
+fn cold_volume(vt: u32, oil: Oil, temperature: u32) -> u32
+    requires { ⌜ (vt ≤ mostHotVolume) × Known oil × (lowestTemperature ≤ temperature) × (temperature ≤ highestTemperature) ⌝ }
+    ensures { λ r. ⌜ r ≡ Steps.coldVolume vt (oil .density .0) temperature ⌝ }
 {
     base::round_half_up(
-        vt as u64 * thermal::factor_at(density, temperature - 150),
+        vt as u64 * thermal::factor_at(oil, temperature - 150),
         thermal::UNITY,
     ) as u32
 }
@@ -69,16 +71,16 @@ pub fn masses_of(
     v0: u32,
     stick: u32,
     temperature: u32,
-    density: Density15,
+    oil: Oil,
     water: u32,
     impurities: u32,
 ) -> Masses
-    requires { ⌜ InRange v0 temperature (density .0) water impurities ⌝ }
-    ensures { λ m. ⌜ MassesWorked v0 stick temperature (density .0) water impurities m ⌝ }
+    requires { ⌜ InRange v0 temperature (oil .density .0) water impurities × Known oil ⌝ }
+    ensures { λ m. ⌜ MassesWorked v0 stick temperature (oil .density .0) water impurities m ⌝ }
 {
     let vt = hot_volume(v0, stick_coefficient(stick), temperature);
-    let v15 = cold_volume(vt, density, temperature);
-    let gross = gross_mass(v15, density);
+    let v15 = cold_volume(vt, oil, temperature);
+    let gross = gross_mass(v15, oil.density);
     let net = net_mass(gross, water, impurities);
     Masses { v15, gross, net }
 }

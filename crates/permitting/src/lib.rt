@@ -77,8 +77,8 @@ fn limit_beside(
     if MOST_LEVEL_TERM < level {
         return PermittedError::Refused(25);
     }
-    let b = thermal::expansion(m.density);
-    let limit = terms::limit_of(terms::sum_of_squares(errors, level, b, m.temperature));
+    let oil = thermal::oil_of(m.density);
+    let limit = terms::limit_of(terms::sum_of_squares(errors, level, oil.expansion, m.temperature));
     PermittedError::Limit(Permitted {
         figures: six,
         limit,

@@ -22,7 +22,8 @@ fn density_there(report: Report, field: u32) -> u32
     requires { ⌜ TemperatureInRange report × DensityInRange field ⌝ }
     ensures { λ r. ⌜ r ≡ densityThere report field ⌝ }
 {
-    thermal::density_at(Density15(field), report.temperature - 150)
+    let oil = thermal::oil_of(Density15(field));
+    thermal::density_at(oil, report.temperature - 150)
 }
 
 // The first field whose density there is not below the report, the last where there is none: found by halving, ten times at most.

@@ -25,8 +25,8 @@ pub use refusals::outside_refusal;
 pub use steps::UNITY;
 pub use steps::density_20;
 pub use steps::density_at;
-pub use steps::expansion;
 pub use steps::factor_at;
+pub use steps::oil_of;
 
 // B of step 4, or 19.
 pub fn expansion_of(density: Density15) -> Expansion
@@ -36,7 +36,8 @@ pub fn expansion_of(density: Density15) -> Expansion
     if refusal != 0 {
         return Expansion::Refused(refusal);
     }
-    Expansion::Billionths(steps::expansion(density))
+    let oil = steps::oil_of(density);
+    Expansion::Billionths(oil.expansion)
 }
 
 // E of step 6 between the temperature, in 0.1 °C, and 15 °C, or the first of 18 and 19.
@@ -51,7 +52,8 @@ pub fn factor_of(density: Density15, temperature: u32) -> Factor
     if by_density != 0 {
         return Factor::Refused(by_density);
     }
-    Factor::TenBillionths(steps::factor_at(density, temperature - 150))
+    let oil = steps::oil_of(density);
+    Factor::TenBillionths(steps::factor_at(oil, temperature - 150))
 }
 
 // The density at 20 °C of step 9, or 19.
@@ -62,5 +64,6 @@ pub fn density_at_20(density: Density15) -> DensityAt20
     if refusal != 0 {
         return DensityAt20::Refused(refusal);
     }
-    DensityAt20::Density(steps::density_20(density))
+    let oil = steps::oil_of(density);
+    DensityAt20::Density(steps::density_20(oil))
 }

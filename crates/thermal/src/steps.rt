@@ -6,6 +6,7 @@ ghost use Rattle.heating.specs.Steps;
 ghost use Rattle.heating.specs.Steps.{unity};
 ghost use Rattle.heating.specs.Limits.{DensityInRange};
 ghost use Rattle.heating.specs.Inner.{
+  Known,
   mostAbove15,
   mostExpansion,
   mostExponent,
@@ -13,17 +14,19 @@ ghost use Rattle.heating.specs.Inner.{
 };
 use heating::Density15;
 use heating::Density20;
+use heating::Oil;
 
 // 1, in the unit 10⁻¹⁰ of steps 5 to 9.
 pub const UNITY: u64 = 10_000_000_000;
 
-// Step 4: B, in 10⁻⁹ per °C.
-pub fn expansion(density: Density15) -> u32
+// Step 4: the oil of a density, with its B.
+pub fn oil_of(density: Density15) -> Oil
     requires { ⌜ DensityInRange (density .0) ⌝ }
-    ensures { λ r. ⌜ r ≡ Steps.expansion (density .0) ⌝ }
+    ensures { λ r. ⌜ Known r × (r .density ≡ density) ⌝ }
 {
     let r = density.0 as u64;
-    base::round_half_up(18_696_960_000_000 + 4_861_800_000 * r, r * r) as u32
+    let expansion = base::round_half_up(18_696_960_000_000 + 4_861_800_000 * r, r * r) as u32;
+    Oil { density, expansion }
 }
 
 // Step 5: X, in 10⁻¹⁰, for d tenths of a degree.
@@ -57,25 +60,26 @@ fn series(x: u64) -> u64
 }
 
 // Step 6: E(d), in 10⁻¹⁰, for d tenths of a degree.
-pub fn factor_at(density: Density15, d: u32) -> u64
-    requires { ⌜ DensityInRange (density .0) × (d ≤ mostAbove15) ⌝ }
-    ensures { λ r. ⌜ (r ≡ Steps.factor (density .0) d) × (r ≤ mostFactor) ⌝ }
+pub fn factor_at(oil: Oil, d: u32) -> u64
+    requires { ⌜ Known oil × (d ≤ mostAbove15) ⌝ }
+    ensures { λ r. ⌜ (r ≡ Steps.factor (oil .density .0) d) × (r ≤ mostFactor) ⌝ }
 {
-    series(exponent(expansion(density), d))
+    series(exponent(oil.expansion, d))
 }
 
 // Step 9, for any temperature: the density d tenths of a degree above 15 °C, in 0.1 kg/m³.
-pub fn density_at(density: Density15, d: u32) -> u32
-    requires { ⌜ DensityInRange (density .0) × (d ≤ mostAbove15) ⌝ }
-    ensures { λ r. ⌜ r ≡ Steps.densityAt (density .0) d ⌝ }
+pub fn density_at(oil: Oil, d: u32) -> u32
+    requires { ⌜ Known oil × (d ≤ mostAbove15) ⌝ }
+    ensures { λ r. ⌜ r ≡ Steps.densityAt (oil .density .0) d ⌝ }
 {
-    base::round_half_up(density.0 as u64 * factor_at(density, d), UNITY) as u32
+    let density = oil.density;
+    base::round_half_up(density.0 as u64 * factor_at(oil, d), UNITY) as u32
 }
 
 // Step 9: the density at 20 °C.
-pub fn density_20(density: Density15) -> Density20
-    requires { ⌜ DensityInRange (density .0) ⌝ }
-    ensures { λ r. ⌜ r .0 ≡ Steps.density20 (density .0) ⌝ }
+pub fn density_20(oil: Oil) -> Density20
+    requires { ⌜ Known oil ⌝ }
+    ensures { λ r. ⌜ r .0 ≡ Steps.density20 (oil .density .0) ⌝ }
 {
-    Density20(density_at(density, 50))
+    Density20(density_at(oil, 50))
 }

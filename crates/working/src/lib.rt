@@ -79,11 +79,16 @@ fn from_volume(number: u32, m: Measured, v0: u32) -> CarAnswer
     requires { ⌜ (m .level ≤ inTenths highestLevel) × (v0 ≤ greatestVolume) × (gradeBad (m .grade) ≡ false) ⌝ }
     ensures { λ r. ⌜ carTold r ≡ answer (first (oilTests (m .grade) (m .temperature) (m .density .0) (m .water) (m .impurities))) (figuresFrom number m v0) ⌝ }
 {
-    let refusal = grades::oil_refusal(m.grade, m.temperature, m.density, m.water, m.impurities);
-    if refusal != 0 {
-        return CarAnswer::Refused(refusal);
+    let by_range = grades::range_refusal(m.grade, m.temperature, m.density, m.water, m.impurities);
+    if by_range != 0 {
+        return CarAnswer::Refused(by_range);
     }
-    let w = mass::masses_of(v0, m.stick, m.temperature, m.density, m.water, m.impurities);
+    let oil = thermal::oil_of(m.density);
+    let by_density_20 = grades::density_20_refusal(m.grade, oil);
+    if by_density_20 != 0 {
+        return CarAnswer::Refused(by_density_20);
+    }
+    let w = mass::masses_of(v0, m.stick, m.temperature, oil, m.water, m.impurities);
     let level = m.level as u32;
     CarAnswer::Accepted(Figures {
         number,

@@ -18,8 +18,8 @@ not13 c = alone-passes 13 _ (c .before .grade-refusal .ensures) (c .if1 .left) (
 not19 : (c : tie.Else2) → densityBad (c .before .before .before .before .args .density .0) ≡ false
 not19 c = alone-passes 19 _ (c .before .density-refusal .ensures) (c .if2 .left) (omega arith)
 
-not21 : (c : tie.Else3) → let a = c .before .before .before .before .before .before .args in density20Bad (a .grade) (a .density .0) ≡ false
-not21 c = alone-passes 21 _ (c .before .density-20-refusal .ensures) (c .if3 .left) (omega arith)
+not21 : (c : tie.Else3) → let a = c .before .before .before .before .before .before .before .args in density20Bad (a .grade) (a .density .0) ≡ false
+not21 c = alone-passes 21 _ (rw (c .before .before .oil-of .ensures .1) at (c .before .density-20-refusal .ensures)) (c .if3 .left) (omega arith)
 
 grade-refusal-requires : tie.Need-grade-refusal-requires
 grade-refusal-requires c κs = search needs
@@ -37,20 +37,25 @@ returns-2 c =
     let a = c .before .before .before .before .args in
     rw (not13 (c .before .before), refused-append (density20Tests (a .grade) (a .density .0)) (densityTests (a .density .0)) (c .before .density-refusal .ensures) (c .if2 .taken))
 
+oil-of-requires : tie.Need-oil-of-requires
+oil-of-requires c κs = density-in-range _ (not19 c)
+
 density-20-refusal-requires : tie.Need-density-20-refusal-requires
-density-20-refusal-requires c κs = density-in-range _ (not19 c)
+density-20-refusal-requires c κs = c .oil-of .ensures .0
 
 returns-3 : tie.Need-returns-3
 returns-3 c =
-    let a = c .before .before .before .before .before .before .args in
-    rw (not13 (c .before .before .before .before), not19 (c .before .before), by-number (first (density20Tests (a .grade) (a .density .0))) (c .before .density-20-refusal .ensures) (c .if3 .taken))
+    let o = c .before .before in
+    let a = o .before .before .before .before .before .args in
+    rw (not13 (o .before .before .before), not19 (o .before), by-number (first (density20Tests (a .grade) (a .density .0))) (rw (o .oil-of .ensures .1) at (c .before .density-20-refusal .ensures)) (c .if3 .taken))
 
 density-20-requires : tie.Need-density-20-requires
-density-20-requires c κs = density-in-range _ (not19 (c .before .before))
+density-20-requires c κs = c .before .before .oil-of .ensures .0
 
 returns-4 : tie.Need-returns-4
 returns-4 c =
-    rw (not13 (c .before .before .before .before .before), not19 (c .before .before .before), not21 (c .before), c .density-20 .ensures)
+    let o = c .before .before .before in
+    rw (not13 (o .before .before .before), not19 (o .before), not21 (c .before), c .density-20 .ensures, o .oil-of .ensures .1)
 
 pub density-at-20-of-grade-spec : {M : Type 1} → statement M
 density-at-20-of-grade-spec =
@@ -60,6 +65,7 @@ density-at-20-of-grade-spec =
     returns
     density-refusal-requires
     returns-2
+    oil-of-requires
     density-20-refusal-requires
     returns-3
     density-20-requires

@@ -25,8 +25,8 @@ cast-result : tie.Need-cast-result
 unfolding coldVolume
 cast-result c =
     let a = c .before .before in
-    let e : c .round-half-up .result ≡ Steps.coldVolume (a .args .vt) (a .args .density .0) (a .args .temperature) = cc in
-    omega (arith, coldVolume-most (a .pre .1 .light) (a .pre .3) (a .pre .0))
+    let e : c .round-half-up .result ≡ Steps.coldVolume (a .args .vt) (a .args .oil .density .0) (a .args .temperature) = cc in
+    omega (arith, coldVolume-most (a .pre .1 .range .light) (a .pre .3) (a .pre .0))
 
 returns : tie.Need-returns
 unfolding coldVolume

@@ -9,6 +9,7 @@ use Rattle.base.specs.Answer.{Answer, figures, refusal}
 use Rattle.base.specs.Numbers.{oneIf}
 use Rattle.table.specs.Table.{Table}
 use Rattle.table.specs.Layout.{tablesOf}
+use Rattle.heating.specs.Steps.{expansion}
 use Rattle.heating.proofs.Bounds.{expansion-most}
 use Rattle.grading.specs.Inner.{FieldsInRange}
 use Rattle.car.proofs.Accepted.{fields}
@@ -65,14 +66,18 @@ returns-3 c h x =
     let large : mostLevelTerm < levelTermOf (all s) (s .args .m) (s .args .errors) = omega (arith, c .if3 .taken, l .level-term-on .ensures) in
     turned-away (too-large (all s) h (s .args .errors) (x .accepted) (k .before .errors-refusal .ensures) (k .if1 .left) (rw (x .is) at large))
 
-expansion-requires : tie.Need-expansion-requires
-expansion-requires c κs = let s = c .before .before .before .before .before .before in fit s .density
+oil-of-requires : tie.Need-oil-of-requires
+oil-of-requires c κs = let s = c .before .before .before .before .before .before in fit s .density
+
+-- B of the car's density
+own : (c : tie.After-oil-of) → c .oil-of .result .expansion ≡ expansion (c .before .before .before .before .before .before .before .args .m .density .0)
+own c = rw (c .oil-of .ensures .1) at (c .oil-of .ensures .0 .own)
 
 sum-of-squares-requires : tie.Need-sum-of-squares-requires
 sum-of-squares-requires c κs =
     let k = c .before .before .before .before .before in
     let s = k .before .before in
-    (errors-in k, c .before .if3 .left, omega (arith, c .expansion .ensures, expansion-most (fit s .density .light)), fit s .hot)
+    (errors-in k, c .before .if3 .left, omega (arith, own c, expansion-most (fit s .density .light)), fit s .hot)
 
 limit-of-requires : tie.Need-limit-of-requires
 limit-of-requires c κs = search needs
@@ -92,7 +97,7 @@ returns-4 c h x =
     let m = s .args .m in
     let e = s .args .errors in
     let sum : q .sum-of-squares .result ≡ sumOfSquares (termsOf (all s) m e) =
-    q .sum-of-squares .ensures .0 ∙ ap₂ (λ (y z : ℕ). sumOfSquares (terms e y z (m .temperature))) (l .level-term-on .ensures) (b .expansion .ensures) in
+    q .sum-of-squares .ensures .0 ∙ ap₂ (λ (y z : ℕ). sumOfSquares (terms e y z (m .temperature))) (l .level-term-on .ensures) (own b) in
     let most : levelTermOf (all s) m e ≤ mostLevelTerm = omega (arith, b .before .if3 .left, l .level-term-on .ensures) in
     limited (n .limit-of .result) (subst (λ (y : ℕ). IsLimit y (n .limit-of .result)) (rw (x .is) at sum) (n .limit-of .ensures .0))
     (all-passed (all s) h e (x .accepted) (k .before .errors-refusal .ensures) (k .if1 .left) (λ z. l .before .if2 .left (s .pre .1 .v0 ∙ rw (x .is) z)) (rw (x .is) at most))
@@ -107,7 +112,7 @@ limit-beside-spec =
     returns-2
     level-term-on-requires
     returns-3
-    expansion-requires
+    oil-of-requires
     sum-of-squares-requires
     limit-of-requires
     is-within-requires

@@ -19,12 +19,17 @@ density-refusal-requires c κs = search needs
 returns : tie.Need-returns
 returns c = rw (by-number (first (densityTests (c .before .before .args .density .0))) (c .before .density-refusal .ensures) (c .if1 .taken))
 
+oil-of-requires : tie.Need-oil-of-requires
+oil-of-requires c κs = density-in-range _ (not19 c)
+
 density-20-requires : tie.Need-density-20-requires
-density-20-requires c κs = density-in-range _ (not19 c)
+density-20-requires c κs = c .oil-of .ensures .0
 
 returns-2 : tie.Need-returns-2
-returns-2 c = rw (not19 (c .before), c .density-20 .ensures)
+returns-2 c =
+    let o = c .before in
+    rw (not19 (o .before), c .density-20 .ensures, o .oil-of .ensures .1)
 
 pub density-at-20-spec : {M : Type 1} → statement M
 density-at-20-spec =
-    tie.close (tie.spec density-refusal-requires returns density-20-requires returns-2)
+    tie.close (tie.spec density-refusal-requires returns oil-of-requires density-20-requires returns-2)

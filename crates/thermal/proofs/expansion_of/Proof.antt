@@ -19,12 +19,12 @@ density-refusal-requires c κs = search needs
 returns : tie.Need-returns
 returns c = rw (by-number (first (densityTests (c .before .before .args .density .0))) (c .before .density-refusal .ensures) (c .if1 .taken))
 
-expansion-requires : tie.Need-expansion-requires
-expansion-requires c κs = density-in-range _ (not19 c)
+oil-of-requires : tie.Need-oil-of-requires
+oil-of-requires c κs = density-in-range _ (not19 c)
 
 returns-2 : tie.Need-returns-2
-returns-2 c = rw (not19 (c .before), c .expansion .ensures)
+returns-2 c = rw (not19 (c .before), c .oil-of .ensures .0 .own, c .oil-of .ensures .1)
 
 pub expansion-of-spec : {M : Type 1} → statement M
 expansion-of-spec =
-    tie.close (tie.spec density-refusal-requires returns expansion-requires returns-2)
+    tie.close (tie.spec density-refusal-requires returns oil-of-requires returns-2)

@@ -1,44 +1,94 @@
--- `working::from_volume` meets its contract: the first of 18 to 21, or V15, gross and net of fields that these leave in range.
-use mathlib.Core.Path.{_≡_, refl, sym, ap}
+-- `working::from_volume` meets its contract: the first of 18 to 20, 21, or V15, gross and net of fields that these leave in range.
+use mathlib.Core.Path.{_≡_, refl, sym, ap, _∙_}
 use mathlib.Core.List.{List}
 use native.Mathlib.Omega.{arith}
 use borrow.Author.Needs.{needs}
-use Rattle.base.specs.Answer.{Test, Verdict, accepts, first, answer}
-use Rattle.base.proofs.Answer.{passed, by-number}
-use Rattle.grading.specs.Grades.{oilTests}
+use Rattle.base.specs.Answer.{Test, Verdict, accepts, first, firstNumber, Answer, answer}
+use Rattle.base.proofs.Answer.{passed, by-number, refused-append, accepted-append}
+use Rattle.grading.specs.Grades.{rangeTests, density20Tests}
+use Rattle.grading.specs.Inner.{FieldsInRange}
 use Rattle.grading.proofs.Limits.{fields-in-range}
 use Rattle.car.specs.declared.Measured.{Measured}
 use Rattle.car.specs.Measured.{figuresFrom}
 use Rattle.working.proofs.from_volume.Statement.{statement}
 use Rattle.working.proofs.from_volume.Tie as tie
 
-abbrev tests : Measured → List Test
-tests m = oilTests (m .grade) (m .temperature) (m .density .0) (m .water) (m .impurities)
+-- 18 to 20, 21, and both
+abbrev ranges : Measured → List Test
+ranges m = rangeTests (m .grade) (m .temperature) (m .density .0) (m .water) (m .impurities)
 
-none : (c : tie.Else1) → first (tests (c .before .before .args .m)) ≡ accepts
-none c = passed (tests (c .before .before .args .m)) refl (c .before .oil-refusal .ensures) (c .if1 .left)
+abbrev heavy : Measured → List Test
+heavy m = density20Tests (m .grade) (m .density .0)
 
-oil-refusal-requires : tie.Need-oil-refusal-requires
-oil-refusal-requires c κs = search needs
+abbrev refused : tie.Start → Verdict → Answer
+refused s v = answer v (figuresFrom (s .args .number) (s .args .m) (s .args .v0))
+
+-- none of 18 to 20 applies
+in-ranges : (c : tie.Else1) → first (ranges (c .before .before .args .m)) ≡ accepts
+in-ranges c = passed (ranges (c .before .before .args .m)) refl (c .before .range-refusal .ensures) (c .if1 .left)
+
+fields : (c : tie.Else1) → let m = c .before .before .args .m in FieldsInRange (m .temperature) (m .density .0) (m .water) (m .impurities)
+fields c =
+    let s = c .before .before in
+    let m = s .args .m in
+    fields-in-range (m .grade) (m .temperature) (m .density .0) (m .water) (m .impurities) (s .pre .2) (in-ranges c)
+
+-- what is handed on is 21's
+twenty-one : (c : tie.After-density-20-refusal) → c .density-20-refusal .result ≡ firstNumber (heavy (c .before .before .before .before .args .m))
+twenty-one c = rw (c .before .oil-of .ensures .1) at (c .density-20-refusal .ensures)
+
+range-refusal-requires : tie.Need-range-refusal-requires
+range-refusal-requires c κs = search needs
 
 returns : tie.Need-returns
 returns c =
-    let a = c .before .before .args in
-    sym (ap (λ (v : Verdict). answer v (figuresFrom (a .number) (a .m) (a .v0))) (by-number (first (tests (a .m))) (c .before .oil-refusal .ensures) (c .if1 .taken)))
-
-masses-of-requires : tie.Need-masses-of-requires
-masses-of-requires c κs =
     let s = c .before .before in
     let m = s .args .m in
-    record { full = s .pre .1; fields = fields-in-range (m .grade) (m .temperature) (m .density .0) (m .water) (m .impurities) (s .pre .2) (none c) }
+    sym (ap (refused s) (refused-append (heavy m) (ranges m) (c .before .range-refusal .ensures) (c .if1 .taken)))
 
-cast-level : tie.Need-cast-level
-cast-level c = omega (arith, c .before .before .before .before .pre .0)
+oil-of-requires : tie.Need-oil-of-requires
+oil-of-requires c κs = fields c .density
+
+density-20-refusal-requires : tie.Need-density-20-refusal-requires
+density-20-refusal-requires c κs = c .oil-of .ensures .0
 
 returns-2 : tie.Need-returns-2
 returns-2 c =
+    let h = c .before in
+    let l = h .before .before in
+    let s = l .before .before in
+    let m = s .args .m in
+    sym (ap (refused s) (accepted-append (heavy m) (ranges m) (in-ranges l) ∙ by-number (first (heavy m)) (twenty-one h) (c .if2 .taken)))
+
+masses-of-requires : tie.Need-masses-of-requires
+masses-of-requires c κs =
+    let o = c .before .before in
+    let l = o .before in
+    let s = l .before .before in
+    (rw (o .oil-of .ensures .1) (record { full = s .pre .1; fields = fields l }), o .oil-of .ensures .0)
+
+cast-level : tie.Need-cast-level
+cast-level c = omega (arith, c .before .before .before .before .before .before .before .pre .0)
+
+returns-3 : tie.Need-returns-3
+returns-3 c =
     let w = c .before .masses-of .ensures in
-    rw (none (c .before .before), w .v15, w .gross, w .net) refl
+    let k = c .before .before in
+    let o = k .before .before in
+    let l = o .before in
+    let m = l .before .before .args .m in
+    let none = accepted-append (heavy m) (ranges m) (in-ranges l) ∙ passed (heavy m) refl (twenty-one (k .before)) (k .if2 .left) in
+    rw (none, w .v15, w .gross, w .net, o .oil-of .ensures .1) refl
 
 pub from-volume-spec : {M : Type 1} → statement M
-from-volume-spec = tie.close (tie.spec oil-refusal-requires returns masses-of-requires cast-level returns-2)
+from-volume-spec =
+    tie.close
+    (tie.spec
+    range-refusal-requires
+    returns
+    oil-of-requires
+    density-20-refusal-requires
+    returns-2
+    masses-of-requires
+    cast-level
+    returns-3)

@@ -16,7 +16,7 @@ factor-at-requires : tie.Need-factor-at-requires
 factor-at-requires c κs = search needs
 
 mul-round-half-up : tie.Need-mul-round-half-up
-mul-round-half-up c = omega (arith, mul-le-mul (c .before .before .pre .0 .dense) (c .factor-at .ensures .1))
+mul-round-half-up c = omega (arith, mul-le-mul (c .before .before .before .pre .0 .range .dense) (c .factor-at .ensures .1))
 
 round-half-up-requires : tie.Need-round-half-up-requires
 round-half-up-requires c κs = search needs
@@ -24,9 +24,9 @@ round-half-up-requires c κs = search needs
 cast-result : tie.Need-cast-result
 unfolding densityAt
 cast-result c =
-    let a = c .before .before .before in
-    let e : c .round-half-up .result ≡ Steps.densityAt (a .args .density .0) (a .args .d) = cc in
-    omega (arith, density-most (a .pre .0) (a .pre .1))
+    let a = c .before .before .before .before in
+    let e : c .round-half-up .result ≡ Steps.densityAt (a .args .oil .density .0) (a .args .d) = cc in
+    omega (arith, density-most (a .pre .0 .range) (a .pre .1))
 
 returns : tie.Need-returns
 unfolding densityAt

@@ -8,24 +8,25 @@ use Rattle.heating.proofs.Bounds.{expansion-most, exponent-most, factor-most}
 use Rattle.thermal.proofs.steps.factor_at.Statement.{statement}
 use Rattle.thermal.proofs.steps.factor_at.Tie as tie
 
-expansion-requires : tie.Need-expansion-requires
-expansion-requires c κs = search needs
-
 exponent-requires : tie.Need-exponent-requires
-exponent-requires c κs = omega (arith, c .expansion .ensures, expansion-most (c .before .pre .0 .light))
+exponent-requires c κs = omega (arith, c .pre .0 .own, expansion-most (c .pre .0 .range .light))
 
 series-requires : tie.Need-series-requires
 series-requires c κs =
-    let a = c .before .before in
-    let e : c .exponent .result ≡ Steps.exponent (Steps.expansion (a .args .density .0)) (a .args .d) = cc in
-    omega (arith, exponent-most (expansion-most (a .pre .0 .light)) (a .pre .1))
+    let a = c .before in
+    let known = a .pre .0 in
+    let b = known .own in
+    let e : c .exponent .result ≡ Steps.exponent (Steps.expansion (a .args .oil .density .0)) (a .args .d) = cc in
+    omega (arith, exponent-most (expansion-most (known .range .light)) (a .pre .1))
 
 returns : tie.Need-returns
 unfolding factor
 returns c =
-    let a = c .before .before .before in
-    let e : c .series .result ≡ Steps.factor (a .args .density .0) (a .args .d) = cc in
-    (e, omega (arith, factor-most (a .pre .0 .light) (a .pre .1)))
+    let a = c .before .before in
+    let known = a .pre .0 in
+    let b = known .own in
+    let e : c .series .result ≡ Steps.factor (a .args .oil .density .0) (a .args .d) = cc in
+    (e, omega (arith, factor-most (known .range .light) (a .pre .1)))
 
 pub factor-at-spec : {M : Type 1} → statement M
-factor-at-spec = tie.close (tie.spec expansion-requires exponent-requires series-requires returns)
+factor-at-spec = tie.close (tie.spec exponent-requires series-requires returns)
