@@ -5,6 +5,7 @@ ghost use Rattle.base.specs.Limits.{mostCars};
 ghost use Rattle.base.specs.Answer.{firstNumber};
 ghost use Rattle.table.specs.Layout.{tablesOf};
 ghost use Rattle.table.specs.Inner.{Good};
+ghost use Rattle.thermal_stored.specs.Stored.{LookedUp};
 ghost use Rattle.car.specs.Car.{dipped, carTold};
 ghost use Rattle.summing.specs.Inner.{Graded};
 ghost use Rattle.consist.specs.Train.{enterAnswer, enterTrain};
@@ -98,8 +99,8 @@ fn hold(
     }
 }
 
-// Enters a car, for a caller with many: 7 and 8 do not turn the tables away, and the train is known to be sound. Its sums are those
-// that its cars make, and are not kept.
+// Enters a car, with the B of its density, for a caller with many: 7 and 8 do not turn the tables away, and the train is known to be
+// sound. Its sums are those that its cars make, and are not kept.
 pub fn enter_on(
     held: u32,
     numbers: &mut [u32; MOST_CARS],
@@ -110,8 +111,9 @@ pub fn enter_on(
     levels: &[u32; PLACES],
     capacities: &[u32; PLACES],
     car: Car,
+    expansion: u32,
 ) -> Entered
-    requires { ⌜ Sixty (lentTrain held (now numbers) (now grades) (now grosses) (now nets)) × SoundTrain (lentTrain held (now numbers) (now grades) (now grosses) (now nets)) × Good d (now levels) (now capacities) ⌝ }
+    requires { ⌜ Sixty (lentTrain held (now numbers) (now grades) (now grosses) (now nets)) × SoundTrain (lentTrain held (now numbers) (now grades) (now grosses) (now nets)) × Good d (now levels) (now capacities) × LookedUp (car .density .0) expansion ⌝ }
     ensures { λ r. ⌜
         (carTold (r .answer) ≡ enterAnswer (tablesOf d (now (levels .entry)) (now (capacities .entry))) (lentTrain held (now (numbers .entry)) (now (grades .entry)) (now (grosses .entry)) (now (nets .entry))) (dipped car))
         × (lentTrain (r .held) (now (numbers .exit)) (now (grades .exit)) (now (grosses .exit)) (now (nets .exit)) ≡ enterTrain (tablesOf d (now (levels .entry)) (now (capacities .entry))) (lentTrain held (now (numbers .entry)) (now (grades .entry)) (now (grosses .entry)) (now (nets .entry))) (dipped car))
@@ -127,6 +129,6 @@ pub fn enter_on(
         };
     }
     let grade = car.grade;
-    let answer = working::work_on(d, levels, capacities, car);
+    let answer = working::work_on(d, levels, capacities, car, expansion);
     hold(held, numbers, grades, grosses, nets, number, grade, answer)
 }

@@ -4,6 +4,7 @@ ghost use Prim.Native.Nat.{_≤_};
 ghost use Rattle.base.specs.Limits.{mostCars};
 ghost use Rattle.table.specs.Layout.{tablesOf};
 ghost use Rattle.table.specs.Inner.{Good};
+ghost use Rattle.thermal_stored.specs.Stored.{LookedUp};
 ghost use Rattle.car.specs.declared.ProbeCar.{ProbeCar};
 ghost use Rattle.car.specs.Car.{probed, carTold};
 ghost use Rattle.car.specs.Inner.{Stands};
@@ -28,8 +29,9 @@ pub fn enter_probed_on(
     levels: &[u32; PLACES],
     capacities: &[u32; PLACES],
     p: Probed,
+    expansion: u32,
 ) -> Entered
-    requires { ⌜ Sixty (lentTrain held (now numbers) (now grades) (now grosses) (now nets)) × SoundTrain (lentTrain held (now numbers) (now grades) (now grosses) (now nets)) × Good d (now levels) (now capacities) ⌝ }
+    requires { ⌜ Sixty (lentTrain held (now numbers) (now grades) (now grosses) (now nets)) × SoundTrain (lentTrain held (now numbers) (now grades) (now grosses) (now nets)) × Good d (now levels) (now capacities) × LookedUp (p .measured .density .0) expansion ⌝ }
     ensures { λ r. ⌜
         ((c : ProbeCar) → Stands p c →
         (carTold (r .answer) ≡ enterAnswer (tablesOf d (now (levels .entry)) (now (capacities .entry))) (lentTrain held (now (numbers .entry)) (now (grades .entry)) (now (grosses .entry)) (now (nets .entry))) (probed c))
@@ -46,7 +48,7 @@ pub fn enter_probed_on(
         };
     }
     let m = p.measured;
-    let answer = working::work_probed_on(d, levels, capacities, p);
+    let answer = working::work_probed_on(d, levels, capacities, p, expansion);
     crate::hold(
         held,
         numbers,

@@ -11,6 +11,7 @@ ghost use Rattle.grading.specs.Answers.{
 use grading::OilShare;
 use heating::Density15;
 use heating::DensityAt20;
+use heating::Oil;
 
 mod refusals; // refusals.rt: the limits, and the refusals by their numbers
 
@@ -44,7 +45,8 @@ pub fn density_at_20_of_grade(grade: u32, density: Density15) -> DensityAt20
     if by_density != 0 {
         return DensityAt20::Refused(by_density);
     }
-    let oil = thermal::oil_of(density);
+    let expansion = thermal_stored::expansion(density);
+    let oil = Oil { density, expansion };
     let by_density_20 = refusals::density_20_refusal(grade, oil);
     if by_density_20 != 0 {
         return DensityAt20::Refused(by_density_20);

@@ -1,6 +1,11 @@
 // How fuel oil and its density change with temperature: steps 4, 5, 6 and 9 of document 01, with refusals 18 and 19. It has definitions
 // and proofs, and no code.
 
+// The range of 19: densities at 15 °C, in 0.1 kg/m³.
+pub const LOWEST_DENSITY: u32 = 9_000;
+
+pub const HIGHEST_DENSITY: u32 = 9_900;
+
 // A density at 15 °C and a density at 20 °C, in 0.1 kg/m³, each a type of its own: one is never taken for the other.
 pub struct Density15(pub u32);
 

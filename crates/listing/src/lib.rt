@@ -6,6 +6,7 @@ ghost use Rattle.base.specs.Buffer.{put};
 ghost use Rattle.base.specs.Limits.{mostCarLines, mostStrikes};
 ghost use Rattle.table.specs.Layout.{tablesOf};
 ghost use Rattle.table.specs.Inner.{Good};
+ghost use Rattle.thermal_stored.specs.Stored.{Stored};
 ghost use Rattle.car.specs.Car.{carOf};
 ghost use Rattle.consist.specs.Train.{emptyTrain};
 ghost use Rattle.consist.specs.Demand3.{answerTo, trainWith};
@@ -33,6 +34,7 @@ use holding::Outcome;
 use reading::Line;
 use table::Directory;
 use table::PLACES;
+use thermal_stored::FIELDS;
 use train::Train;
 
 // The longest answer, in bytes, and so the least buffer: a line for each of 120 C lines and sixty K lines, S, and G for each grade.
@@ -90,10 +92,11 @@ fn list_line(
     d: Directory,
     levels: &[u32; PLACES],
     capacities: &[u32; PLACES],
+    expansions: &[u32; FIELDS],
     fields: &[u32; HISTORY_NUMBERS],
     i: usize,
 ) -> Listed
-    requires { ⌜ (i < mostCarLines + mostStrikes) × Sixty (lentTrain held (now numbers) (now grades) (now grosses) (now nets)) × SoundTrain (lentTrain held (now numbers) (now grades) (now grosses) (now nets)) × Good d (now levels) (now capacities) ⌝ }
+    requires { ⌜ (i < mostCarLines + mostStrikes) × Sixty (lentTrain held (now numbers) (now grades) (now grosses) (now nets)) × SoundTrain (lentTrain held (now numbers) (now grades) (now grosses) (now nets)) × Good d (now levels) (now capacities) × Stored (now expansions) ⌝ }
     ensures { λ r. ⌜
         (r .line ≡ itemLine (itemAt (tablesOf d (now (levels .entry)) (now (capacities .entry))) (now (fields .entry)) i) (answerTo (lentTrain held (now (numbers .entry)) (now (grades .entry)) (now (grosses .entry)) (now (nets .entry))) (itemAt (tablesOf d (now (levels .entry)) (now (capacities .entry))) (now (fields .entry)) i)))
         × (lentTrain (r .held) (now (numbers .exit)) (now (grades .exit)) (now (grosses .exit)) (now (nets .exit)) ≡ trainWith (lentTrain held (now (numbers .entry)) (now (grades .entry)) (now (grosses .entry)) (now (nets .entry))) (itemAt (tablesOf d (now (levels .entry)) (now (capacities .entry))) (now (fields .entry)) i))
@@ -102,6 +105,7 @@ fn list_line(
     let letter = number_at(fields, i, 0);
     if letter == CAR_MARK {
         let car = car_at(fields, i);
+        let expansion = thermal_stored::look_up(expansions, car.density);
         let entered = entering::enter_on(
             held,
             numbers,
@@ -112,6 +116,7 @@ fn list_line(
             levels,
             capacities,
             car,
+            expansion,
         );
         let answer = entered.answer;
         let line = printing::answer_line(car.number, answer);
@@ -137,10 +142,11 @@ fn write_listing(
     d: Directory,
     levels: &[u32; PLACES],
     capacities: &[u32; PLACES],
+    expansions: &[u32; FIELDS],
     fields: &[u32; HISTORY_NUMBERS],
     lines: usize,
 ) -> usize
-    requires { ⌜ Ready d (now levels) (now capacities) (now fields) lines (length (now out)) ⌝ }
+    requires { ⌜ Ready d (now levels) (now capacities) (now fields) lines (length (now out)) × Stored (now expansions) ⌝ }
     ensures { λ r. ⌜
         (r ≡ length (textOf (linesFrom emptyTrain (itemsOf (tablesOf d (now (levels .entry)) (now (capacities .entry))) (historyOf (now (fields .entry)) lines)))))
         × (now (out .exit) ≡ put (now (out .entry)) 0 (textOf (linesFrom emptyTrain (itemsOf (tablesOf d (now (levels .entry)) (now (capacities .entry))) (historyOf (now (fields .entry)) lines)))))
@@ -164,6 +170,7 @@ fn write_listing(
             d,
             levels,
             capacities,
+            expansions,
             fields,
             i,
         );
@@ -201,11 +208,13 @@ pub fn answer_sheet(text: &[u8], out: &mut [u8]) -> Reply
             Reply { length, number }
         }
         Outcome::Whole => {
+            let expansions = thermal_stored::expansions();
             let length = write_listing(
                 out,
                 head.directory,
                 &levels,
                 &capacities,
+                &expansions,
                 &fields,
                 head.cars + head.struck,
             );

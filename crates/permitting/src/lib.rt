@@ -2,6 +2,7 @@
 ghost use mathlib.Core.Path.{_≡_};
 ghost use Prim.Native.Nat.{_≤_};
 ghost use Rattle.table.specs.Layout.{tablesOf};
+ghost use Rattle.thermal_stored.specs.Stored.{LookedUp};
 ghost use Rattle.car.specs.Measured.{v0};
 ghost use Rattle.car.specs.Car.{measured, Intake, dipped};
 ghost use Rattle.car.specs.Inner.{Passed};
@@ -54,16 +55,17 @@ fn level_term_on(
     }
 }
 
-// The limit beside the six figures of an accepted car of which m is measured, or the first of 24 and 25.
+// The limit beside the six figures of an accepted car of which m is measured, with the B of its density, or the first of 24 and 25.
 fn limit_beside(
     d: Directory,
     levels: &[u32; PLACES],
     capacities: &[u32; PLACES],
     m: Measured,
+    expansion: u32,
     six: Figures,
     errors: Errors,
 ) -> PermittedError
-    requires { ⌜ Passed (tablesOf d (now levels) (now capacities)) m × SixShown (tablesOf d (now levels) (now capacities)) m six ⌝ }
+    requires { ⌜ Passed (tablesOf d (now levels) (now capacities)) m × SixShown (tablesOf d (now levels) (now capacities)) m six × LookedUp (m .density .0) expansion ⌝ }
     ensures { λ r. ⌜ ((h : Intake) → AcceptedAs (tablesOf d (now (levels .entry)) (now (capacities .entry))) h m six → PermittedAnswer (tablesOf d (now (levels .entry)) (now (capacities .entry))) h errors (permittedTold r)) ⌝ }
 {
     let by_errors = terms::errors_refusal(errors);
@@ -77,8 +79,7 @@ fn limit_beside(
     if MOST_LEVEL_TERM < level {
         return PermittedError::Refused(25);
     }
-    let oil = thermal::oil_of(m.density);
-    let limit = terms::limit_of(terms::sum_of_squares(errors, level, oil.expansion, m.temperature));
+    let limit = terms::limit_of(terms::sum_of_squares(errors, level, expansion, m.temperature));
     PermittedError::Limit(Permitted {
         figures: six,
         limit,
@@ -103,11 +104,12 @@ pub fn permitted_error(
         × PermittedRight
         ⌝ }
 {
-    match train::work_out(d, levels, capacities, car) {
+    let expansion = thermal_stored::expansion(car.density);
+    match train::work_alone(d, levels, capacities, car, expansion) {
         CarAnswer::Accepted(six) => {
             let level = six.level as u64;
             let m = working::measured_at(car, level);
-            limit_beside(d, levels, capacities, m, six, errors)
+            limit_beside(d, levels, capacities, m, expansion, six, errors)
         }
         CarAnswer::Refused(number) => PermittedError::Refused(number),
     }

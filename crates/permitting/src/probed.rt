@@ -33,10 +33,11 @@ pub fn permitted_error_probe(
         ConvertedSet::Refused(number) => PermittedError::Refused(number),
         ConvertedSet::Tenths(t) => {
             let p = working::probed_of(car, t);
-            match train::work_probed(d, levels, capacities, p) {
+            let m = p.measured;
+            let expansion = thermal_stored::expansion(m.density);
+            match train::work_probed_alone(d, levels, capacities, p, expansion) {
                 CarAnswer::Accepted(six) => {
-                    let m = p.measured;
-                    crate::limit_beside(d, levels, capacities, m, six, errors)
+                    crate::limit_beside(d, levels, capacities, m, expansion, six, errors)
                 }
                 CarAnswer::Refused(number) => PermittedError::Refused(number),
             }

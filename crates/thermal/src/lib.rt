@@ -12,21 +12,19 @@ use heating::Density15;
 use heating::DensityAt20;
 use heating::Expansion;
 use heating::Factor;
+use heating::Oil;
 
 mod refusals; // refusals.rt: the limits, and refusals 18 and 19 by their numbers
-mod steps; // steps.rt: steps 4, 5, 6 and 9
+mod steps; // steps.rt: steps 5, 6 and 9, with B handed on
 
 // For the crates of the grades, of the masses, of the permitted error and of the laboratory's density.
-pub use refusals::HIGHEST_DENSITY;
 pub use refusals::HIGHEST_TEMPERATURE;
-pub use refusals::LOWEST_DENSITY;
 pub use refusals::density_refusal;
 pub use refusals::outside_refusal;
 pub use steps::UNITY;
 pub use steps::density_20;
 pub use steps::density_at;
 pub use steps::factor_at;
-pub use steps::oil_of;
 
 // B of step 4, or 19.
 pub fn expansion_of(density: Density15) -> Expansion
@@ -36,8 +34,7 @@ pub fn expansion_of(density: Density15) -> Expansion
     if refusal != 0 {
         return Expansion::Refused(refusal);
     }
-    let oil = steps::oil_of(density);
-    Expansion::Billionths(oil.expansion)
+    Expansion::Billionths(thermal_stored::expansion(density))
 }
 
 // E of step 6 between the temperature, in 0.1 °C, and 15 °C, or the first of 18 and 19.
@@ -52,7 +49,8 @@ pub fn factor_of(density: Density15, temperature: u32) -> Factor
     if by_density != 0 {
         return Factor::Refused(by_density);
     }
-    let oil = steps::oil_of(density);
+    let expansion = thermal_stored::expansion(density);
+    let oil = Oil { density, expansion };
     Factor::TenBillionths(steps::factor_at(oil, temperature - 150))
 }
 
@@ -64,6 +62,7 @@ pub fn density_at_20(density: Density15) -> DensityAt20
     if refusal != 0 {
         return DensityAt20::Refused(refusal);
     }
-    let oil = steps::oil_of(density);
+    let expansion = thermal_stored::expansion(density);
+    let oil = Oil { density, expansion };
     DensityAt20::Density(steps::density_20(oil))
 }

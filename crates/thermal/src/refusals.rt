@@ -1,20 +1,17 @@
-// The limits of temperature and of density at 15 °C, and refusals 18 and 19 by their numbers: each function gives its number, or 0.
+// The limits of temperature, and refusals 18 and 19 by their numbers: each function gives its number, or 0.
 ghost use mathlib.Core.Path.{_≡_};
 ghost use mathlib.Core.List.{[], _∷_};
 ghost use Rattle.base.specs.Answer.{refuseIf, firstNumber};
 ghost use Rattle.base.specs.Numbers.{outside};
 ghost use Rattle.heating.specs.Limits.{temperatureTestsAnyGrade, densityTests};
 use heating::Density15;
+use heating::HIGHEST_DENSITY;
+use heating::LOWEST_DENSITY;
 
 // The temperatures of every grade, in 0.1 °C.
 const LOWEST_TEMPERATURE: u32 = 200;
 
 pub const HIGHEST_TEMPERATURE: u32 = 900;
-
-// The densities at 15 °C, in 0.1 kg/m³.
-pub const LOWEST_DENSITY: u32 = 9_000;
-
-pub const HIGHEST_DENSITY: u32 = 9_900;
 
 // The number, where x is not from low to high, else 0.
 pub fn outside_refusal(number: u32, low: u32, high: u32, x: u32) -> u32

@@ -1,10 +1,9 @@
-// Steps 4, 5, 6 and 9 of document 01 in 64-bit arithmetic, each equal to its definition in `heating`.
+// Steps 5, 6 and 9 of document 01 in 64-bit arithmetic, each equal to its definition in `heating`.
 ghost use mathlib.Core.Path.{_≡_};
 ghost use Prim.Native.Nat.{_+_, _*_, _≤_};
 ghost use Rattle.base.specs.Rounding.{rounded};
 ghost use Rattle.heating.specs.Steps;
 ghost use Rattle.heating.specs.Steps.{unity};
-ghost use Rattle.heating.specs.Limits.{DensityInRange};
 ghost use Rattle.heating.specs.Inner.{
   Known,
   mostAbove15,
@@ -12,22 +11,11 @@ ghost use Rattle.heating.specs.Inner.{
   mostExponent,
   mostFactor,
 };
-use heating::Density15;
 use heating::Density20;
 use heating::Oil;
 
 // 1, in the unit 10⁻¹⁰ of steps 5 to 9.
 pub const UNITY: u64 = 10_000_000_000;
-
-// Step 4: the oil of a density, with its B.
-pub fn oil_of(density: Density15) -> Oil
-    requires { ⌜ DensityInRange (density .0) ⌝ }
-    ensures { λ r. ⌜ Known r × (r .density ≡ density) ⌝ }
-{
-    let r = density.0 as u64;
-    let expansion = base::round_half_up(18_696_960_000_000 + 4_861_800_000 * r, r * r) as u32;
-    Oil { density, expansion }
-}
 
 // Step 5: X, in 10⁻¹⁰, for d tenths of a degree.
 fn exponent(b: u32, d: u32) -> u64

@@ -5,6 +5,7 @@ ghost use Rattle.base.specs.Answer.{firstNumber};
 ghost use Rattle.table.specs.Table.{tablesTests};
 ghost use Rattle.table.specs.Layout.{tablesOf};
 ghost use Rattle.table.specs.TablesCard.{TablesRight};
+ghost use Rattle.thermal_stored.specs.Stored.{LookedUp};
 ghost use Rattle.car.specs.Car.{numberTests, measured, dipped, aloneAnswer, carTold};
 ghost use Rattle.consist.specs.Demand3.{Close, InOrder};
 ghost use Rattle.car.specs.Card.{AllRight};
@@ -32,6 +33,24 @@ pub fn alone_refusal(
     working::number_refusal(number)
 }
 
+// The answer of `work_out`, for a caller that has the B of the car's density.
+pub fn work_alone(
+    d: Directory,
+    levels: &[u32; PLACES],
+    capacities: &[u32; PLACES],
+    car: Car,
+    expansion: u32,
+) -> CarAnswer
+    requires { ⌜ LookedUp (car .density .0) expansion ⌝ }
+    ensures { λ r. ⌜ carTold r ≡ aloneAnswer (tablesOf d (now (levels .entry)) (now (capacities .entry))) (dipped car) ⌝ }
+{
+    let refusal = alone_refusal(d, levels, capacities, car.number);
+    if refusal != 0 {
+        return CarAnswer::Refused(refusal);
+    }
+    working::work_on(d, levels, capacities, car, expansion)
+}
+
 // 7 and 8 of its tables, 10, then the first of 12 to 21, or its figures.
 pub fn work_out(
     d: Directory,
@@ -46,9 +65,6 @@ pub fn work_out(
         × AllRight × OperationsRight × TablesRight × ExactRight × OrderExample
         ⌝ }
 {
-    let refusal = alone_refusal(d, levels, capacities, car.number);
-    if refusal != 0 {
-        return CarAnswer::Refused(refusal);
-    }
-    working::work_on(d, levels, capacities, car)
+    let expansion = thermal_stored::expansion(car.density);
+    work_alone(d, levels, capacities, car, expansion)
 }

@@ -8,10 +8,12 @@ mod alone; // alone.rt: a car by itself
 mod probed; // probed.rt: the car of a portable probe
 mod running; // running.rt: the running train
 
+pub use alone::work_alone;
 pub use alone::work_out;
 pub use probed::enter_probed;
 pub use probed::work_out_probe;
 pub use probed::work_probed;
+pub use probed::work_probed_alone;
 
 // The running train: its sums, and the cars it holds in the first `held` places, by number, grade, gross and net in kg; grade 0
 // is a car that was refused, and has no masses.

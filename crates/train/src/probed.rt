@@ -1,6 +1,7 @@
 // The car of a portable probe: by itself, and entered in the running train.
 ghost use mathlib.Core.Path.{_≡_};
 ghost use Rattle.table.specs.Layout.{tablesOf};
+ghost use Rattle.thermal_stored.specs.Stored.{LookedUp};
 ghost use Rattle.car.specs.declared.ProbeCar.{ProbeCar};
 ghost use Rattle.car.specs.Car.{probedMeasured, probed, aloneAnswer, carTold};
 ghost use Rattle.car.specs.Inner.{Stands};
@@ -20,6 +21,24 @@ use probe_spec::ConvertedSet;
 use table::Directory;
 use table::PLACES;
 
+// The answer of `work_probed`, for a caller that has the B of the car's density.
+pub fn work_probed_alone(
+    d: Directory,
+    levels: &[u32; PLACES],
+    capacities: &[u32; PLACES],
+    p: Probed,
+    expansion: u32,
+) -> CarAnswer
+    requires { ⌜ LookedUp (p .measured .density .0) expansion ⌝ }
+    ensures { λ r. ⌜ ((c : ProbeCar) → Stands p c → carTold r ≡ aloneAnswer (tablesOf d (now (levels .entry)) (now (capacities .entry))) (probed c)) ⌝ }
+{
+    let refusal = crate::alone::alone_refusal(d, levels, capacities, p.number);
+    if refusal != 0 {
+        return CarAnswer::Refused(refusal);
+    }
+    working::work_probed_on(d, levels, capacities, p, expansion)
+}
+
 // A probe's car whose set is in tenths: 7 and 8 of its tables, 10, then the first of 12, 13 and 16 to 21, or its figures.
 pub fn work_probed(
     d: Directory,
@@ -29,11 +48,9 @@ pub fn work_probed(
 ) -> CarAnswer
     ensures { λ r. ⌜ ((c : ProbeCar) → Stands p c → carTold r ≡ aloneAnswer (tablesOf d (now (levels .entry)) (now (capacities .entry))) (probed c)) ⌝ }
 {
-    let refusal = crate::alone::alone_refusal(d, levels, capacities, p.number);
-    if refusal != 0 {
-        return CarAnswer::Refused(refusal);
-    }
-    working::work_probed_on(d, levels, capacities, p)
+    let m = p.measured;
+    let expansion = thermal_stored::expansion(m.density);
+    work_probed_alone(d, levels, capacities, p, expansion)
 }
 
 // A probe's car: 31 and 32 of its set, 7 and 8 of its tables, 10, then the first of 12, 13 and 16 to 21, or its figures.
@@ -96,6 +113,8 @@ pub fn enter_probed(
             train,
         };
     }
+    let m = p.measured;
+    let expansion = thermal_stored::expansion(m.density);
     let entered = entering::enter_probed_on(
         held,
         &mut numbers,
@@ -106,6 +125,7 @@ pub fn enter_probed(
         levels,
         capacities,
         p,
+        expansion,
     );
     let answer = entered.answer;
     let next = crate::running::with_sums(entered.held, numbers, grades, grosses, nets);

@@ -142,6 +142,7 @@ impl Train {
                 train: self,
             };
         }
+        let expansion = thermal_stored::expansion(car.density);
         let entered = entering::enter_on(
             held,
             &mut numbers,
@@ -152,6 +153,7 @@ impl Train {
             levels,
             capacities,
             car,
+            expansion,
         );
         let answer = entered.answer;
         let train = with_sums(entered.held, numbers, grades, grosses, nets);

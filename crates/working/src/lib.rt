@@ -7,6 +7,7 @@ ghost use Rattle.base.specs.Answer.{accepts, first, firstNumber, answer};
 ghost use Rattle.base.specs.Limits.{highestLevel, inTenths};
 ghost use Rattle.table.specs.Layout.{tablesOf};
 ghost use Rattle.table.specs.Inner.{Good};
+ghost use Rattle.thermal_stored.specs.Stored.{LookedUp};
 ghost use Rattle.grading.specs.Grades.{gradeBad, oilTests};
 ghost use Rattle.kilograms.specs.Distance.{greatestVolume};
 ghost use Rattle.car.specs.Measured.{earlyTests, lateTests, figuresFrom, sixFigures};
@@ -17,6 +18,7 @@ use car::CarAnswer;
 use car::Figures;
 use car::Measured;
 use gauging::Volume;
+use heating::Oil;
 use table::Directory;
 use table::PLACES;
 
@@ -74,16 +76,17 @@ fn early_refusal(d: Directory, m: Measured) -> u32
     12
 }
 
-// The six figures of what is measured, from V0 (0.01 dm³) on, or the first of 18 to 21, for a grade that there is.
-fn from_volume(number: u32, m: Measured, v0: u32) -> CarAnswer
-    requires { ⌜ (m .level ≤ inTenths highestLevel) × (v0 ≤ greatestVolume) × (gradeBad (m .grade) ≡ false) ⌝ }
+// The six figures of what is measured, from V0 (0.01 dm³) on, or the first of 18 to 21, for a grade that there is; B is handed on.
+fn from_volume(number: u32, m: Measured, expansion: u32, v0: u32) -> CarAnswer
+    requires { ⌜ (m .level ≤ inTenths highestLevel) × (v0 ≤ greatestVolume) × (gradeBad (m .grade) ≡ false) × LookedUp (m .density .0) expansion ⌝ }
     ensures { λ r. ⌜ carTold r ≡ answer (first (oilTests (m .grade) (m .temperature) (m .density .0) (m .water) (m .impurities))) (figuresFrom number m v0) ⌝ }
 {
     let by_range = grades::range_refusal(m.grade, m.temperature, m.density, m.water, m.impurities);
     if by_range != 0 {
         return CarAnswer::Refused(by_range);
     }
-    let oil = thermal::oil_of(m.density);
+    let density = m.density;
+    let oil = Oil { density, expansion };
     let by_density_20 = grades::density_20_refusal(m.grade, oil);
     if by_density_20 != 0 {
         return CarAnswer::Refused(by_density_20);
@@ -107,24 +110,26 @@ fn work_measured(
     capacities: &[u32; PLACES],
     number: u32,
     m: Measured,
+    expansion: u32,
 ) -> CarAnswer
-    requires { ⌜ Good d (now levels) (now capacities) × (first (earlyTests (tablesOf d (now levels) (now capacities)) m) ≡ accepts) ⌝ }
+    requires { ⌜ Good d (now levels) (now capacities) × (first (earlyTests (tablesOf d (now levels) (now capacities)) m) ≡ accepts) × LookedUp (m .density .0) expansion ⌝ }
     ensures { λ r. ⌜ carTold r ≡ answer (first (lateTests (tablesOf d (now (levels .entry)) (now (capacities .entry))) m)) (sixFigures (tablesOf d (now (levels .entry)) (now (capacities .entry))) number m) ⌝ }
 {
     match capacity::volume_on(d, levels, capacities, m.kind, m.level, m.water_level) {
         Volume::Refused(n) => CarAnswer::Refused(n),
-        Volume::Hundredths(v0) => from_volume(number, m, v0),
+        Volume::Hundredths(v0) => from_volume(number, m, expansion, v0),
     }
 }
 
-// The car's answer on tables that are not refused: the first of 12 to 21, or its figures.
+// The car's answer on tables that are not refused, with the B of its density: the first of 12 to 21, or its figures.
 pub fn work_on(
     d: Directory,
     levels: &[u32; PLACES],
     capacities: &[u32; PLACES],
     car: Car,
+    expansion: u32,
 ) -> CarAnswer
-    requires { ⌜ Good d (now levels) (now capacities) ⌝ }
+    requires { ⌜ Good d (now levels) (now capacities) × LookedUp (car .density .0) expansion ⌝ }
     ensures { λ r. ⌜ carTold r ≡ ownAnswer (tablesOf d (now (levels .entry)) (now (capacities .entry))) (dipped car) ⌝ }
 {
     let m = measured_of(car);
@@ -137,5 +142,5 @@ pub fn work_on(
     if by_readings != 0 {
         return CarAnswer::Refused(by_readings);
     }
-    work_measured(d, levels, capacities, car.number, m)
+    work_measured(d, levels, capacities, car.number, m, expansion)
 }

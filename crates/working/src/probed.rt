@@ -3,6 +3,7 @@ ghost use mathlib.Core.Path.{_≡_};
 ghost use Rattle.probe_spec.specs.Inner.{SetShown};
 ghost use Rattle.table.specs.Layout.{tablesOf};
 ghost use Rattle.table.specs.Inner.{Good};
+ghost use Rattle.thermal_stored.specs.Stored.{LookedUp};
 ghost use Rattle.car.specs.declared.ProbeCar.{ProbeCar};
 ghost use Rattle.car.specs.Car.{probed, ownAnswer, carTold};
 ghost use Rattle.car.specs.Inner.{Stands};
@@ -37,14 +38,15 @@ pub fn probed_of(car: ProbeCar, t: SetTenths) -> Probed
     }
 }
 
-// The answer to a probe's car on tables that are not refused: the first of 12, 13 and 16 to 21, or its figures.
+// The answer to a probe's car on tables that are not refused, with the B of its density: the first of 12, 13 and 16 to 21, or its figures.
 pub fn work_probed_on(
     d: Directory,
     levels: &[u32; PLACES],
     capacities: &[u32; PLACES],
     p: Probed,
+    expansion: u32,
 ) -> CarAnswer
-    requires { ⌜ Good d (now levels) (now capacities) ⌝ }
+    requires { ⌜ Good d (now levels) (now capacities) × LookedUp (p .measured .density .0) expansion ⌝ }
     ensures { λ r. ⌜ ((c : ProbeCar) → Stands p c → carTold r ≡ ownAnswer (tablesOf d (now (levels .entry)) (now (capacities .entry))) (probed c)) ⌝ }
 {
     let m = p.measured;
@@ -52,5 +54,5 @@ pub fn work_probed_on(
     if early != 0 {
         return CarAnswer::Refused(early);
     }
-    crate::work_measured(d, levels, capacities, p.number, m)
+    crate::work_measured(d, levels, capacities, p.number, m, expansion)
 }

@@ -7,7 +7,9 @@ use native.Mathlib.Omega.{arith}
 use Rattle.base.specs.Answer.{first}
 use Rattle.base.proofs.Answer.{by-number, alone-passes, refused-append}
 use Rattle.heating.specs.Limits.{densityBad, densityTests}
+use Rattle.heating.specs.Inner.{Known}
 use Rattle.heating.proofs.Limits.{density-in-range}
+use Rattle.thermal_stored.proofs.Known.{known}
 use Rattle.grading.specs.Grades.{gradeBad, gradeTests, density20Bad, density20Tests}
 use Rattle.grades.proofs.density_at_20_of_grade.Statement.{statement}
 use Rattle.grades.proofs.density_at_20_of_grade.Tie as tie
@@ -19,7 +21,7 @@ not19 : (c : tie.Else2) → densityBad (c .before .before .before .before .args 
 not19 c = alone-passes 19 _ (c .before .density-refusal .ensures) (c .if2 .left) (omega arith)
 
 not21 : (c : tie.Else3) → let a = c .before .before .before .before .before .before .before .args in density20Bad (a .grade) (a .density .0) ≡ false
-not21 c = alone-passes 21 _ (rw (c .before .before .oil-of .ensures .1) at (c .before .density-20-refusal .ensures)) (c .if3 .left) (omega arith)
+not21 c = alone-passes 21 _ (c .before .density-20-refusal .ensures) (c .if3 .left) (omega arith)
 
 grade-refusal-requires : tie.Need-grade-refusal-requires
 grade-refusal-requires c κs = search needs
@@ -37,25 +39,29 @@ returns-2 c =
     let a = c .before .before .before .before .args in
     rw (not13 (c .before .before), refused-append (density20Tests (a .grade) (a .density .0)) (densityTests (a .density .0)) (c .before .density-refusal .ensures) (c .if2 .taken))
 
-oil-of-requires : tie.Need-oil-of-requires
-oil-of-requires c κs = density-in-range _ (not19 c)
+expansion-requires : tie.Need-expansion-requires
+expansion-requires c κs = search needs
+
+-- the oil has its own B
+own : (x : tie.After-expansion) → Known (record { density = x .before .before .before .before .before .args .density; expansion = x .expansion .result })
+own x = known (density-in-range _ (not19 (x .before))) (x .expansion .ensures)
 
 density-20-refusal-requires : tie.Need-density-20-refusal-requires
-density-20-refusal-requires c κs = c .oil-of .ensures .0
+density-20-refusal-requires c κs = own c
 
 returns-3 : tie.Need-returns-3
 returns-3 c =
-    let o = c .before .before in
-    let a = o .before .before .before .before .before .args in
-    rw (not13 (o .before .before .before), not19 (o .before), by-number (first (density20Tests (a .grade) (a .density .0))) (rw (o .oil-of .ensures .1) at (c .before .density-20-refusal .ensures)) (c .if3 .taken))
+    let l = c .before .before .before in
+    let a = l .before .before .before .before .args in
+    rw (not13 (l .before .before), not19 l, by-number (first (density20Tests (a .grade) (a .density .0))) (c .before .density-20-refusal .ensures) (c .if3 .taken))
 
 density-20-requires : tie.Need-density-20-requires
-density-20-requires c κs = c .before .before .oil-of .ensures .0
+density-20-requires c κs = own (c .before .before)
 
 returns-4 : tie.Need-returns-4
 returns-4 c =
-    let o = c .before .before .before in
-    rw (not13 (o .before .before .before), not19 (o .before), not21 (c .before), c .density-20 .ensures, o .oil-of .ensures .1)
+    let l = c .before .before .before .before in
+    rw (not13 (l .before .before), not19 l, not21 (c .before), c .density-20 .ensures)
 
 pub density-at-20-of-grade-spec : {M : Type 1} → statement M
 density-at-20-of-grade-spec =
@@ -65,7 +71,7 @@ density-at-20-of-grade-spec =
     returns
     density-refusal-requires
     returns-2
-    oil-of-requires
+    expansion-requires
     density-20-refusal-requires
     returns-3
     density-20-requires

@@ -33,10 +33,13 @@ write-refused-requires c κs =
 enum-told : tie.Need-enum-told
 enum-told c = search needs
 
+expansions-requires : tie.Need-expansions-requires
+expansions-requires c κs = search needs
+
 -- a whole sheet has no more lines behind its tables than it may
-few : (c : tie.After-struct-known) → let r = c .before .before .before .before .before .before .before in r .read-sheet .result .cars + r .read-sheet .result .struck ≤ mostCarLines + mostStrikes
+few : (c : tie.After-struct-known) → let r = c .before .before .before .before .before .before .before .before .before in r .read-sheet .result .cars + r .read-sheet .result .struck ≤ mostCarLines + mostStrikes
 few c =
-    let o = c .before .before .before .before .before in
+    let o = c .before .before .before .before .before .before .before in
     let r = o .before .before in
     few-lines (r .read-sheet .last .1 .1 .1 .0) (r .read-sheet .result .cars + r .read-sheet .result .struck) (r .read-sheet .ensures .2 .few-cars (o .enum-told .given .1)) (r .read-sheet .ensures .2 .few-strikes (o .enum-told .given .1))
 
@@ -45,18 +48,21 @@ add-write-listing c = search (needs, few c)
 
 write-listing-requires : tie.Need-write-listing-requires
 write-listing-requires c κs =
-    let o = c .before .before .before .before .before in
+    let x = c .before .before .before .before .before .before in
+    let o = x .before in
     let r = o .before .before in
     let b = r .before .before .before .before in
-    let s = b .before .before .before in
-    record {
-      good = r .read-sheet .ensures .2 .good (o .enum-told .given .1);
-      few = few c;
-      few-cars = r .read-sheet .ensures .2 .few-cars (o .enum-told .given .1);
-      few-strikes = r .read-sheet .ensures .2 .few-strikes (o .enum-told .given .1);
-      each = whole-proper (now (s .args .text)) (r .read-sheet .result) (r .read-sheet .last .1 .0) (r .read-sheet .last .1 .1 .0) (r .read-sheet .last .1 .1 .1 .0) (r .read-sheet .ensures .0) (o .enum-told .given .1) .each;
-      space = omega (arith, b .if1 .left);
-    }
+    let s = b .before .before .before in (
+      record {
+        good = r .read-sheet .ensures .2 .good (o .enum-told .given .1);
+        few = few c;
+        few-cars = r .read-sheet .ensures .2 .few-cars (o .enum-told .given .1);
+        few-strikes = r .read-sheet .ensures .2 .few-strikes (o .enum-told .given .1);
+        each = whole-proper (now (s .args .text)) (r .read-sheet .result) (r .read-sheet .last .1 .0) (r .read-sheet .last .1 .1 .0) (r .read-sheet .last .1 .1 .1 .0) (r .read-sheet .ensures .0) (o .enum-told .given .1) .each;
+        space = omega (arith, b .if1 .left);
+      },
+      x .expansions .ensures,
+    )
 
 same-length : tie.Need-same-length
 same-length c = search needs
@@ -77,7 +83,7 @@ same-length-2 c = search needs
 returns-3 : tie.Need-returns-3
 returns-3 c =
     let w = c .before .before in
-    let o = w .before .before .before .before .before .before in
+    let o = w .before .before .before .before .before .before .before .before in
     let r = o .before .before in
     let b = r .before .before .before .before in
     let s = b .before .before .before in
@@ -93,6 +99,7 @@ answer-sheet-spec =
     enum-known-outcome
     write-refused-requires
     enum-told
+    expansions-requires
     add-write-listing
     write-listing-requires
     same-length

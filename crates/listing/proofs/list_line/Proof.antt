@@ -28,8 +28,14 @@ number-at-requires c κs = search needs
 car-at-requires : tie.Need-car-at-requires
 car-at-requires c κs = search needs
 
+look-up-requires : tie.Need-look-up-requires
+look-up-requires c κs = c .before .before .before .pre .4
+
 enter-on-requires : tie.Need-enter-on-requires
-enter-on-requires c κs = let s = c .before .before .before .before .before .before .before in (s .pre .1, s .pre .2, s .pre .3)
+enter-on-requires c κs =
+    let x = c .before .before .before .before in
+    let s = x .before .before .before .before in
+    (s .pre .1, s .pre .2, s .pre .3, x .look-up .ensures)
 
 answer-line-requires : tie.Need-answer-line-requires
 answer-line-requires c κs = search needs
@@ -37,7 +43,7 @@ answer-line-requires c κs = search needs
 returns : tie.Need-returns
 returns c =
     let e = c .before in
-    let k = e .before .before .before .before .before in
+    let k = e .before .before .before .before .before .before in
     let n = k .before .before in
     let s = n .before in
     let item = enters-item (all s) (now (s .args .fields)) (s .args .i) (n .number-at .result) (n .number-at .ensures) (k .before .if1 .taken) in (
@@ -77,6 +83,7 @@ list-line-spec =
     (tie.spec
     number-at-requires
     car-at-requires
+    look-up-requires
     enter-on-requires
     answer-line-requires
     returns

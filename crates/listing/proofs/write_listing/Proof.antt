@@ -23,10 +23,10 @@ use Rattle.listing.proofs.write_listing.Statement.{statement}
 use Rattle.listing.proofs.write_listing.Tie as tie
 
 abbrev Inv-loop : tie.InvT-loop
-Inv-loop out₀ d levels capacities fields lines numbers₀ grades₀ grosses₀ nets₀ held₀ at₀ i₀ out numbers grades grosses nets held at i = Written (tablesOf d levels capacities) fields lines out₀ out (lentTrain held numbers grades grosses nets) at i
+Inv-loop out₀ d levels capacities expansions fields lines numbers₀ grades₀ grosses₀ nets₀ held₀ at₀ i₀ out numbers grades grosses nets held at i = Written (tablesOf d levels capacities) fields lines out₀ out (lentTrain held numbers grades grosses nets) at i
 
 abbrev μ-loop : tie.MeasureT-loop
-μ-loop out₀ d levels capacities fields lines numbers₀ grades₀ grosses₀ nets₀ held₀ at₀ i₀ out numbers grades grosses nets held at i = lines - i
+μ-loop out₀ d levels capacities expansions fields lines numbers₀ grades₀ grosses₀ nets₀ held₀ at₀ i₀ out numbers grades grosses nets held at i = lines - i
 
 abbrev all : tie.Start Inv-loop μ-loop → List Table
 all s = tablesOf (s .args .d) (now (s .args .levels)) (now (s .args .capacities))
@@ -37,7 +37,7 @@ train l = lentTrain (l .loop .held) (l .loop .numbers) (l .loop .grades) (l .loo
 
 -- the whole listing has room
 fits : (s : tie.Start Inv-loop μ-loop) → length (sheetText (all s) (historyOf (now (s .args .fields)) (s .args .lines))) ≤ length (now (s .args .out))
-fits s = omega (arith, sheet-fits (all s) (s .pre .good .accepted) (now (s .args .fields)) (s .args .lines) (s .pre .few-cars) (s .pre .few-strikes) (s .pre .each), s .pre .space)
+fits s = omega (arith, sheet-fits (all s) (s .pre .0 .good .accepted) (now (s .args .fields)) (s .args .lines) (s .pre .0 .few-cars) (s .pre .0 .few-strikes) (s .pre .0 .each), s .pre .0 .space)
 
 -- where the function began
 abbrev began : tie.At-loop Inv-loop μ-loop → tie.Start Inv-loop μ-loop
@@ -51,14 +51,14 @@ loop-holds c =
     let m = c .before .before .before .before in
     let s = m .before .before in
     let e = m .empty .ensures .0 in
-    rw (ap (λ (t : Train). t .numbers) e, ap (λ (t : Train). t .grades) e, ap (λ (t : Train). t .grosses) e, ap (λ (t : Train). t .nets) e, lent-empty) (begun (all s) (now (s .args .fields)) (s .args .lines) (now (s .args .out)) (s .pre .each))
+    rw (ap (λ (t : Train). t .numbers) e, ap (λ (t : Train). t .grades) e, ap (λ (t : Train). t .grosses) e, ap (λ (t : Train). t .nets) e, lent-empty) (begun (all s) (now (s .args .fields)) (s .args .lines) (now (s .args .out)) (s .pre .0 .each))
 
 list-line-requires : tie.Need-list-line-requires Inv-loop μ-loop
 list-line-requires c κs =
     let t = c .before .before .before .before in
     let l = t .before in
     let s = began l in
-    (omega (arith, s .pre .few, t .loop-test .taken), reached-sixty (l .loop .inv .train), reached-train (l .loop .inv .train), s .pre .good)
+    (omega (arith, s .pre .0 .few, t .loop-test .taken), reached-sixty (l .loop .inv .train), reached-train (l .loop .inv .train), s .pre .0 .good, s .pre .1)
 
 append-line-requires : tie.Need-append-line-requires Inv-loop μ-loop
 append-line-requires c κs =
@@ -66,12 +66,12 @@ append-line-requires c κs =
     let t = e .before .before .before .before .before in
     let l = t .before in
     let s = began l in
-    rw (e .list-line .ensures .0) (room-for (all s) (s .pre .good .accepted) (now (s .args .fields)) (s .args .lines) (now (s .args .out)) (fits s) (l .loop .out) (train l) (l .loop .at) (l .loop .i) (l .loop .inv) (t .loop-test .taken))
+    rw (e .list-line .ensures .0) (room-for (all s) (s .pre .0 .good .accepted) (now (s .args .fields)) (s .args .lines) (now (s .args .out)) (fits s) (l .loop .out) (train l) (l .loop .at) (l .loop .i) (l .loop .inv) (t .loop-test .taken))
 
 add-i : tie.Need-add-i Inv-loop μ-loop
 add-i c =
     let t = c .before .before .before .before .before .before .before .before .before in
-    search (needs, began (t .before) .pre .few, t .loop-test .taken)
+    search (needs, began (t .before) .pre .0 .few, t .loop-test .taken)
 
 loop-less : tie.Need-loop-less Inv-loop μ-loop
 loop-less c = search needs
@@ -83,7 +83,7 @@ loop-again c =
     let t = e .before .before .before .before .before in
     let l = t .before in
     let s = began l in
-    turn (all s) (s .pre .good .accepted) (now (s .args .fields)) (s .args .lines) (now (s .args .out)) (fits s) (l .loop .out) (train l) (l .loop .at) (l .loop .i) (l .loop .inv) (t .loop-test .taken) (e .list-line .result .line)
+    turn (all s) (s .pre .0 .good .accepted) (now (s .args .fields)) (s .args .lines) (now (s .args .out)) (fits s) (l .loop .out) (train l) (l .loop .at) (l .loop .i) (l .loop .inv) (t .loop-test .taken) (e .list-line .result .line)
     (lentTrain (e .list-line .result .held) (e .list-line .last .1 .0) (e .list-line .last .1 .1 .0) (e .list-line .last .1 .1 .1 .0) (e .list-line .last .1 .1 .1 .1 .0)) (w .append-line .last .0) (w .append-line .result) (e .list-line .ensures .0)
     (e .list-line .ensures .1) (w .append-line .ensures .1) (w .append-line .ensures .0) (w .append-line .kept .0)
 
@@ -111,7 +111,7 @@ write-totals-requires c κs =
     let t = after m in
     let l = t .before in
     let s = began l in
-    rw (made m) (totals-ready (all s) (s .pre .good .accepted) (now (s .args .fields)) (s .args .lines) (now (s .args .out)) (fits s) (l .loop .out) (train l) (l .loop .at) (l .loop .i) (l .loop .inv) (t .loop-test .left))
+    rw (made m) (totals-ready (all s) (s .pre .0 .good .accepted) (now (s .args .fields)) (s .args .lines) (now (s .args .out)) (fits s) (l .loop .out) (train l) (l .loop .at) (l .loop .i) (l .loop .inv) (t .loop-test .left))
 
 same-length : tie.Need-same-length Inv-loop μ-loop
 same-length c = let w = c .before .before in w .write-totals .kept .0 ∙ after (w .before .before) .before .loop .inv .laid .same
@@ -123,7 +123,7 @@ returns c =
     let t = after m in
     let l = t .before in
     let s = began l in
-    ended (all s) (s .pre .good .accepted) (now (s .args .fields)) (s .args .lines) (now (s .args .out)) (fits s) (l .loop .out) (train l) (l .loop .at) (l .loop .i) (l .loop .inv) (t .loop-test .left) (w .write-totals .last .0)
+    ended (all s) (s .pre .0 .good .accepted) (now (s .args .fields)) (s .args .lines) (now (s .args .out)) (fits s) (l .loop .out) (train l) (l .loop .at) (l .loop .i) (l .loop .inv) (t .loop-test .left) (w .write-totals .last .0)
     (w .write-totals .result) (w .write-totals .ensures .0 ∙ ap (λ (x : Sums). l .loop .at + length (textOf (totalsLines x))) (made m))
     (w .write-totals .ensures .1 ∙ ap (λ (x : Sums). put (l .loop .out) (l .loop .at) (textOf (totalsLines x))) (made m))
 

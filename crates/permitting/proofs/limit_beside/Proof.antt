@@ -66,18 +66,15 @@ returns-3 c h x =
     let large : mostLevelTerm < levelTermOf (all s) (s .args .m) (s .args .errors) = omega (arith, c .if3 .taken, l .level-term-on .ensures) in
     turned-away (too-large (all s) h (s .args .errors) (x .accepted) (k .before .errors-refusal .ensures) (k .if1 .left) (rw (x .is) at large))
 
-oil-of-requires : tie.Need-oil-of-requires
-oil-of-requires c κs = let s = c .before .before .before .before .before .before in fit s .density
-
 -- B of the car's density
-own : (c : tie.After-oil-of) → c .oil-of .result .expansion ≡ expansion (c .before .before .before .before .before .before .before .args .m .density .0)
-own c = rw (c .oil-of .ensures .1) at (c .oil-of .ensures .0 .own)
+own : (s : tie.Start) → s .args .expansion ≡ expansion (s .args .m .density .0)
+own s = s .pre .2 (fit s .density)
 
 sum-of-squares-requires : tie.Need-sum-of-squares-requires
 sum-of-squares-requires c κs =
-    let k = c .before .before .before .before .before in
+    let k = c .before .before .before .before in
     let s = k .before .before in
-    (errors-in k, c .before .if3 .left, omega (arith, own c, expansion-most (fit s .density .light)), fit s .hot)
+    (errors-in k, c .if3 .left, omega (arith, own s, expansion-most (fit s .density .light)), fit s .hot)
 
 limit-of-requires : tie.Need-limit-of-requires
 limit-of-requires c κs = search needs
@@ -91,14 +88,14 @@ returns-4 c h x =
     let n = c .before in
     let q = n .before in
     let b = q .before in
-    let l = b .before .before in
+    let l = b .before in
     let k = l .before .before .before in
     let s = k .before .before in
     let m = s .args .m in
     let e = s .args .errors in
     let sum : q .sum-of-squares .result ≡ sumOfSquares (termsOf (all s) m e) =
-    q .sum-of-squares .ensures .0 ∙ ap₂ (λ (y z : ℕ). sumOfSquares (terms e y z (m .temperature))) (l .level-term-on .ensures) (own b) in
-    let most : levelTermOf (all s) m e ≤ mostLevelTerm = omega (arith, b .before .if3 .left, l .level-term-on .ensures) in
+    q .sum-of-squares .ensures .0 ∙ ap₂ (λ (y z : ℕ). sumOfSquares (terms e y z (m .temperature))) (l .level-term-on .ensures) (own s) in
+    let most : levelTermOf (all s) m e ≤ mostLevelTerm = omega (arith, b .if3 .left, l .level-term-on .ensures) in
     limited (n .limit-of .result) (subst (λ (y : ℕ). IsLimit y (n .limit-of .result)) (rw (x .is) at sum) (n .limit-of .ensures .0))
     (all-passed (all s) h e (x .accepted) (k .before .errors-refusal .ensures) (k .if1 .left) (λ z. l .before .if2 .left (s .pre .1 .v0 ∙ rw (x .is) z)) (rw (x .is) at most))
     (ap₂ (λ (six : List ℕ) (w : Bool). six ++ (n .limit-of .result ∷ oneIf w ∷ [])) (ap values (x .shows)) (c .is-within .ensures ∙ ap (within (n .limit-of .result)) (rw (x .is) at (s .pre .1 .gross))))
@@ -112,7 +109,6 @@ limit-beside-spec =
     returns-2
     level-term-on-requires
     returns-3
-    oil-of-requires
     sum-of-squares-requires
     limit-of-requires
     is-within-requires

@@ -15,8 +15,15 @@ use Rattle.permitting.proofs.permitted_error.Tie as tie
 abbrev all : tie.Start → List Table
 all s = tablesOf (s .args .d) (now (s .args .levels)) (now (s .args .capacities))
 
-work-out-requires : tie.Need-work-out-requires
-work-out-requires c κs = search needs
+-- where the function began
+abbrev start : tie.After-work-alone → tie.Start
+start a = a .before .before
+
+expansion-requires : tie.Need-expansion-requires
+expansion-requires c κs = search needs
+
+work-alone-requires : tie.Need-work-alone-requires
+work-alone-requires c κs = search needs
 
 enum-known-six : tie.Need-enum-known-six
 enum-known-six c = search needs
@@ -28,19 +35,20 @@ measured-at-requires : tie.Need-measured-at-requires
 measured-at-requires c κs = search needs
 
 -- what is measured of the car
-same : (c : tie.After-measured-at) → c .measured-at .result ≡ measured (c .before .before .before .before .before .before .args .car)
+same : (c : tie.After-measured-at) → c .measured-at .result ≡ measured (start (c .before .before .before .before .before) .args .car)
 same c =
     let x = c .before .before .before in
     let a = x .before .before in
-    let s = a .before in
-    c .measured-at .ensures (level-shown (all s) (dipped (s .args .car)) (a .work-out .ensures .0) (x .six .given .1))
+    let s = start a in
+    c .measured-at .ensures (level-shown (all s) (dipped (s .args .car)) (a .work-alone .ensures) (x .six .given .1))
 
 limit-beside-requires : tie.Need-limit-beside-requires
 limit-beside-requires c κs =
     let x = c .before .before .before in
     let a = x .before .before in
-    let s = a .before in
-    behind (all s) (dipped (s .args .car)) (a .work-out .ensures .0) (x .six .given .1) (same c)
+    let s = start a in
+    let p = behind (all s) (dipped (s .args .car)) (a .work-alone .ensures) (x .six .given .1) (same c) in
+    (p .0, p .1, rw (same c) (a .before .expansion .ensures))
 
 enum-known-number : tie.Need-enum-known-number
 enum-known-number c = search needs
@@ -50,22 +58,23 @@ returns c =
     let m = c .before in
     let x = m .before .before .before in
     let a = x .before .before in
-    let s = a .before in
+    let s = start a in
     let h = dipped (s .args .car) in
     whole permitted-right (all s) h (s .args .errors) (permittedTold (c .limit-beside .result))
-    (c .limit-beside .ensures h (accepted-as (all s) h (a .work-out .ensures .0) (x .six .given .1) (same m)))
+    (c .limit-beside .ensures h (accepted-as (all s) h (a .work-alone .ensures) (x .six .given .1) (same m)))
 
 returns-2 : tie.Need-returns-2
 returns-2 c =
     let a = c .before .before .before in
-    let s = a .before in
-    away permitted-right (all s) (dipped (s .args .car)) (s .args .errors) (a .work-out .ensures .0) (c .before .number .given .1)
+    let s = start a in
+    away permitted-right (all s) (dipped (s .args .car)) (s .args .errors) (a .work-alone .ensures) (c .before .number .given .1)
 
 pub permitted-error-spec : {M : Type 1} → statement M
 permitted-error-spec =
     tie.close
     (tie.spec
-    work-out-requires
+    expansion-requires
+    work-alone-requires
     enum-known-six
     cast-level
     measured-at-requires

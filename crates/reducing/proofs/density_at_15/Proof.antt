@@ -38,25 +38,33 @@ returns c =
     let number : c .before .outside-refusal .result ≡ 26 = told ∙ ap (λ (b : Bool). firstNumber (refuseIf 26 b ∷ [])) bad in
     promised (Refused _) (rw number (turned-away bad))
 
+expansions-requires : tie.Need-expansions-requires
+expansions-requires c κs = search needs
+
 nearest-requires : tie.Need-nearest-requires
-nearest-requires c κs = temperature-in _ (not26 c)
+nearest-requires c κs = (temperature-in _ (not26 (c .before .before)), c .before .expansions .ensures)
 
 distance-to-requires : tie.Need-distance-to-requires
-distance-to-requires c κs = (temperature-in _ (not26 (c .before)), c .nearest .ensures .field)
+distance-to-requires c κs =
+    let n = c .before in
+    let e = n .before .before in
+    (temperature-in _ (not26 (e .before)), n .nearest .ensures .field, e .expansions .ensures)
 
 returns-2 : tie.Need-returns-2
 returns-2 c =
-    let a = c .before .before in
-    let far : 1 < distance (a .before .before .before .args .report) (a .nearest .result) = omega (arith, c .if2 .taken, c .before .distance-to .ensures) in
-    promised (Refused 27) (too-far (not26 (a .before)) (a .nearest .ensures) far)
+    let n = c .before .before .before in
+    let l = n .before .before .before in
+    let far : 1 < distance (l .before .before .args .report) (n .nearest .result) = omega (arith, c .if2 .taken, c .before .distance-to .ensures) in
+    promised (Refused 27) (too-far (not26 l) (n .nearest .ensures) far)
 
 returns-3 : tie.Need-returns-3
 returns-3 c =
-    let a = c .before .before in
-    let near : distance (a .before .before .before .args .report) (a .nearest .result) ≤ 1 = omega (arith, c .if2 .left, c .before .distance-to .ensures) in
-    promised (Density _) (found (not26 (a .before)) (a .nearest .ensures) near)
+    let n = c .before .before .before in
+    let l = n .before .before .before in
+    let near : distance (l .before .before .args .report) (n .nearest .result) ≤ 1 = omega (arith, c .if2 .left, c .before .distance-to .ensures) in
+    promised (Density _) (found (not26 l) (n .nearest .ensures) near)
 
 pub density-at-15-spec : {M : Type 1} → statement M
 density-at-15-spec =
     tie.close
-    (tie.spec outside-refusal-requires returns nearest-requires distance-to-requires returns-2 returns-3)
+    (tie.spec outside-refusal-requires returns expansions-requires nearest-requires distance-to-requires returns-2 returns-3)

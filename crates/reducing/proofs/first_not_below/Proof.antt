@@ -10,7 +10,7 @@ use Rattle.reducing.proofs.first_not_below.Statement.{statement}
 use Rattle.reducing.proofs.first_not_below.Tie as tie
 
 abbrev Inv-loop : tie.InvT-loop
-Inv-loop report low₀ high₀ low high =
+Inv-loop expansions report low₀ high₀ low high =
     (lowestDensity ≤ low)
     × (low ≤ high)
     × (high ≤ highestDensity)
@@ -18,7 +18,7 @@ Inv-loop report low₀ high₀ low high =
     × (high < highestDensity → report .density ≤ densityThere report high)
 
 abbrev μ-loop : tie.MeasureT-loop
-μ-loop report low₀ high₀ low high = high - low
+μ-loop expansions report low₀ high₀ low high = high - low
 
 loop-holds : tie.Need-loop-holds Inv-loop μ-loop
 loop-holds c = (omega arith, omega arith, omega arith, λ s l h. absurd (omega arith), λ h. absurd (omega arith))
@@ -27,7 +27,7 @@ add-middle : tie.Need-add-middle Inv-loop μ-loop
 add-middle c = omega arith
 
 density-there-requires : tie.Need-density-there-requires Inv-loop μ-loop
-density-there-requires c κs = (c .before .before .pre, record { light = omega arith; dense = omega arith })
+density-there-requires c κs = (c .before .before .pre .0, record { light = omega arith; dense = omega arith }, c .before .before .pre .1)
 
 loop-less : tie.Need-loop-less Inv-loop μ-loop
 loop-less c = omega arith
@@ -51,7 +51,7 @@ loop-again-2 c =
       omega arith,
       omega arith,
       i .2,
-      λ s l h. omega (arith, c .before .before .density-there .ensures, c .if1 .left, mono (b .args .report) (b .pre) {s = middle} l (omega arith) (omega arith)),
+      λ s l h. omega (arith, c .before .before .density-there .ensures, c .if1 .left, mono (b .args .report) (b .pre .0) {s = middle} l (omega arith) (omega arith)),
       i .4,
     )
 

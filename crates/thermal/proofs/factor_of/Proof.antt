@@ -9,6 +9,7 @@ use Rattle.base.proofs.Answer.{by-number, alone-passes, refused-append}
 use Rattle.base.proofs.Numbers.{inside}
 use Rattle.heating.specs.Limits.{lowestTemperature, highestTemperature, temperatureBadAnyGrade, temperatureTestsAnyGrade, densityBad, densityTests}
 use Rattle.heating.proofs.Limits.{density-in-range}
+use Rattle.thermal_stored.proofs.Known.{known}
 use Rattle.thermal.proofs.factor_of.Statement.{statement}
 use Rattle.thermal.proofs.factor_of.Tie as tie
 
@@ -36,19 +37,19 @@ returns-2 : tie.Need-returns-2
 returns-2 c =
     rw (not18 (c .before .before), by-number (first (densityTests (c .before .before .before .before .args .density .0))) (c .before .density-refusal .ensures) (c .if2 .taken))
 
-oil-of-requires : tie.Need-oil-of-requires
-oil-of-requires c κs = density-in-range _ (not19 c)
+expansion-requires : tie.Need-expansion-requires
+expansion-requires c κs = search needs
 
 sub-factor-at : tie.Need-sub-factor-at
 sub-factor-at c = omega (arith, in-range (c .before .before .before) .0)
 
 factor-at-requires : tie.Need-factor-at-requires
-factor-at-requires c κs = (c .oil-of .ensures .0, omega (arith, in-range (c .before .before .before) .1))
+factor-at-requires c κs = (known (density-in-range _ (not19 (c .before))) (c .expansion .ensures), omega (arith, in-range (c .before .before .before) .1))
 
 returns-3 : tie.Need-returns-3
 returns-3 c =
-    let o = c .before in
-    rw (not18 (o .before .before .before), not19 (o .before), c .factor-at .ensures .0, o .oil-of .ensures .1)
+    let l = c .before .before in
+    rw (not18 (l .before .before), not19 l, c .factor-at .ensures .0)
 
 pub factor-of-spec : {M : Type 1} → statement M
 factor-of-spec =
@@ -58,7 +59,7 @@ factor-of-spec =
     returns
     density-refusal-requires
     returns-2
-    oil-of-requires
+    expansion-requires
     sub-factor-at
     factor-at-requires
     returns-3)

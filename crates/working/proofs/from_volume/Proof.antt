@@ -3,8 +3,10 @@ use mathlib.Core.Path.{_≡_, refl, sym, ap, _∙_}
 use mathlib.Core.List.{List}
 use native.Mathlib.Omega.{arith}
 use borrow.Author.Needs.{needs}
-use Rattle.base.specs.Answer.{Test, Verdict, accepts, first, firstNumber, Answer, answer}
+use Rattle.base.specs.Answer.{Test, Verdict, accepts, first, Answer, answer}
 use Rattle.base.proofs.Answer.{passed, by-number, refused-append, accepted-append}
+use Rattle.heating.specs.Inner.{Known}
+use Rattle.thermal_stored.proofs.Known.{known}
 use Rattle.grading.specs.Grades.{rangeTests, density20Tests}
 use Rattle.grading.specs.Inner.{FieldsInRange}
 use Rattle.grading.proofs.Limits.{fields-in-range}
@@ -33,10 +35,6 @@ fields c =
     let m = s .args .m in
     fields-in-range (m .grade) (m .temperature) (m .density .0) (m .water) (m .impurities) (s .pre .2) (in-ranges c)
 
--- what is handed on is 21's
-twenty-one : (c : tie.After-density-20-refusal) → c .density-20-refusal .result ≡ firstNumber (heavy (c .before .before .before .before .args .m))
-twenty-one c = rw (c .before .oil-of .ensures .1) at (c .density-20-refusal .ensures)
-
 range-refusal-requires : tie.Need-range-refusal-requires
 range-refusal-requires c κs = search needs
 
@@ -46,11 +44,12 @@ returns c =
     let m = s .args .m in
     sym (ap (refused s) (refused-append (heavy m) (ranges m) (c .before .range-refusal .ensures) (c .if1 .taken)))
 
-oil-of-requires : tie.Need-oil-of-requires
-oil-of-requires c κs = fields c .density
+-- the oil has its own B
+own : (c : tie.Else1) → let a = c .before .before .args in Known (record { density = a .m .density; expansion = a .expansion })
+own c = known (fields c .density) (c .before .before .pre .3)
 
 density-20-refusal-requires : tie.Need-density-20-refusal-requires
-density-20-refusal-requires c κs = c .oil-of .ensures .0
+density-20-refusal-requires c κs = own (c .before)
 
 returns-2 : tie.Need-returns-2
 returns-2 c =
@@ -58,14 +57,13 @@ returns-2 c =
     let l = h .before .before in
     let s = l .before .before in
     let m = s .args .m in
-    sym (ap (refused s) (accepted-append (heavy m) (ranges m) (in-ranges l) ∙ by-number (first (heavy m)) (twenty-one h) (c .if2 .taken)))
+    sym (ap (refused s) (accepted-append (heavy m) (ranges m) (in-ranges l) ∙ by-number (first (heavy m)) (h .density-20-refusal .ensures) (c .if2 .taken)))
 
 masses-of-requires : tie.Need-masses-of-requires
 masses-of-requires c κs =
-    let o = c .before .before in
-    let l = o .before in
+    let l = c .before .before .before in
     let s = l .before .before in
-    (rw (o .oil-of .ensures .1) (record { full = s .pre .1; fields = fields l }), o .oil-of .ensures .0)
+    (record { full = s .pre .1; fields = fields l }, own l)
 
 cast-level : tie.Need-cast-level
 cast-level c = omega (arith, c .before .before .before .before .before .before .before .pre .0)
@@ -74,11 +72,10 @@ returns-3 : tie.Need-returns-3
 returns-3 c =
     let w = c .before .masses-of .ensures in
     let k = c .before .before in
-    let o = k .before .before in
-    let l = o .before in
+    let l = k .before .before .before in
     let m = l .before .before .args .m in
-    let none = accepted-append (heavy m) (ranges m) (in-ranges l) ∙ passed (heavy m) refl (twenty-one (k .before)) (k .if2 .left) in
-    rw (none, w .v15, w .gross, w .net, o .oil-of .ensures .1) refl
+    let none = accepted-append (heavy m) (ranges m) (in-ranges l) ∙ passed (heavy m) refl (k .before .density-20-refusal .ensures) (k .if2 .left) in
+    rw (none, w .v15, w .gross, w .net) refl
 
 pub from-volume-spec : {M : Type 1} → statement M
 from-volume-spec =
@@ -86,7 +83,6 @@ from-volume-spec =
     (tie.spec
     range-refusal-requires
     returns
-    oil-of-requires
     density-20-refusal-requires
     returns-2
     masses-of-requires

@@ -31,6 +31,7 @@ from-volume-requires c κs =
       mean-most (all s) (m .kind) (m .level) (m .«water_level») (s .pre .0 .accepted) (v .volume-on .ensures) (c .before .v0 .given .1),
       volume-most (all s) (m .kind) (m .level) (m .«water_level») (s .pre .0 .accepted) (v .volume-on .ensures) (c .before .v0 .given .1),
       grade-known (all s) m (s .pre .1),
+      s .pre .2,
     )
 
 returns : tie.Need-returns

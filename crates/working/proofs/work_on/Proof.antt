@@ -19,7 +19,7 @@ all s = tablesOf (s .args .d) (now (s .args .levels)) (now (s .args .capacities)
 early : (c : tie.After-early-refusal) → let s = c .before .before in c .early-refusal .result ≡ firstNumber (earlyTests (all s) (measured (s .args .car)))
 early c =
     let s = c .before .before in
-    rw (c .before .measured-of .ensures) at (c .early-refusal .ensures (now (s .args .levels)) (now (s .args .capacities)) (s .pre))
+    rw (c .before .measured-of .ensures) at (c .early-refusal .ensures (now (s .args .levels)) (now (s .args .capacities)) (s .pre .0))
 
 measured-of-requires : tie.Need-measured-of-requires
 measured-of-requires c κs = search needs
@@ -47,7 +47,7 @@ work-measured-requires c κs =
     let r = c .before in
     let e = r .before .before .before in
     let s = e .before .before in
-    (s .pre, rw (e .before .measured-of .ensures) (early-passed (all s) (dipped (s .args .car)) (early e) (r .before .before .if1 .left)))
+    (s .pre .0, rw (e .before .measured-of .ensures) (early-passed (all s) (dipped (s .args .car)) (early e) (r .before .before .if1 .left)), rw (e .before .measured-of .ensures) (s .pre .1))
 
 returns-3 : tie.Need-returns-3
 returns-3 c =

@@ -29,8 +29,11 @@ stands p =
     let k = t .before .before in
     p .probed-of .ensures (set-shown (start p .args .car .set) (k .set-tenths .ensures) (t .t .given .1))
 
-answered : (w : tie.After-work-probed) → let s = start (w .before) in carTold (w .work-probed .result) ≡ aloneAnswer (all s) (probed (s .args .car))
-answered w = w .work-probed .ensures (start (w .before) .args .car) (stands (w .before))
+abbrev probe : tie.After-work-probed-alone → tie.After-probed-of
+probe w = w .before .before .before
+
+answered : (w : tie.After-work-probed-alone) → let s = start (probe w) in carTold (w .work-probed-alone .result) ≡ aloneAnswer (all s) (probed (s .args .car))
+answered w = w .work-probed-alone .ensures (start (probe w) .args .car) (stands (probe w))
 
 set-tenths-requires : tie.Need-set-tenths-requires
 set-tenths-requires c κs = search needs
@@ -44,18 +47,22 @@ enum-known-t c = search needs
 probed-of-requires : tie.Need-probed-of-requires
 probed-of-requires c κs = search needs
 
-work-probed-requires : tie.Need-work-probed-requires
-work-probed-requires c κs = search needs
+expansion-requires : tie.Need-expansion-requires
+expansion-requires c κs = search needs
+
+work-probed-alone-requires : tie.Need-work-probed-alone-requires
+work-probed-alone-requires c κs = search needs
 
 enum-known-six : tie.Need-enum-known-six
 enum-known-six c = search needs
 
 limit-beside-requires : tie.Need-limit-beside-requires
 limit-beside-requires c κs =
-    let x = c .before .before in
+    let x = c .before in
     let w = x .before .before in
-    let s = start (w .before) in
-    behind (all s) (probed (s .args .car)) (answered w) (x .six .given .1) (stands (w .before) .measured)
+    let s = start (probe w) in
+    let p = behind (all s) (probed (s .args .car)) (answered w) (x .six .given .1) (stands (probe w) .measured) in
+    (p .0, p .1, w .before .expansion .ensures)
 
 enum-known-number-2 : tie.Need-enum-known-number-2
 enum-known-number-2 c = search needs
@@ -71,18 +78,18 @@ returns c =
 
 returns-2 : tie.Need-returns-2
 returns-2 c =
-    let x = c .before .before .before in
+    let x = c .before .before in
     let w = x .before .before in
-    let s = start (w .before) in
+    let s = start (probe w) in
     let h = probed (s .args .car) in
     whole probed-permitted-right (all s) h (s .args .errors) (permittedTold (c .limit-beside .result))
-    (c .limit-beside .ensures h (accepted-as (all s) h (answered w) (x .six .given .1) (stands (w .before) .measured)))
+    (c .limit-beside .ensures h (accepted-as (all s) h (answered w) (x .six .given .1) (stands (probe w) .measured)))
 
 returns-3 : tie.Need-returns-3
 returns-3 c =
     let n = c .before in
     let w = n .before .before in
-    let s = start (w .before) in
+    let s = start (probe w) in
     away probed-permitted-right (all s) (probed (s .args .car)) (s .args .errors) (answered w) (n .number2 .given .1)
 
 pub permitted-error-probe-spec : {M : Type 1} → statement M
@@ -93,7 +100,8 @@ permitted-error-probe-spec =
     enum-known-number
     enum-known-t
     probed-of-requires
-    work-probed-requires
+    expansion-requires
+    work-probed-alone-requires
     enum-known-six
     limit-beside-requires
     enum-known-number-2

@@ -57,14 +57,18 @@ returns c =
 abbrev tally : tie.Start → Tally
 tally s = record { sums = s .args .self .sums; held = s .args .self .held }
 
+expansion-requires : tie.Need-expansion-requires
+expansion-requires c κs = search needs
+
 enter-on-requires : tie.Need-enter-on-requires
 unfolding all
 enter-on-requires c κs =
-    let l = c .before .before .before .before in
+    let x = c .before .before .before .before in
+    let l = x .before in
     let s = start (l .before) in
     let t = s .args .self in
     let k = rows-sound (tally s) (t .numbers) (t .grades) (t .grosses) (t .nets) (sound l .1) (sixty s) in
-    (k .0, k .1, record { accepted = sound l .0 })
+    (k .0, k .1, record { accepted = sound l .0 }, x .expansion .ensures)
 
 with-sums-requires : tie.Need-with-sums-requires
 with-sums-requires c κs = c .enter-on .ensures .2
@@ -73,7 +77,7 @@ returns-2 : tie.Need-returns-2
 unfolding all
 returns-2 c =
     let e = c .before in
-    let l = e .before .before .before .before .before in
+    let l = e .before .before .before .before .before .before in
     let s = start (l .before) in
     let t = s .args .self in
     let h = dipped (s .args .car) in
@@ -81,4 +85,4 @@ returns-2 c =
     whole (all s) (told s) h (carTold (e .enter-on .result .answer)) (trainTold (c .with-sums .result)) (k .0, c .with-sums .ensures ∙ k .1)
 
 pub enter-spec : {M : Type 1} → statement M
-enter-spec = tie.close (tie.spec bar-refusal-requires returns enter-on-requires with-sums-requires returns-2)
+enter-spec = tie.close (tie.spec bar-refusal-requires returns expansion-requires enter-on-requires with-sums-requires returns-2)

@@ -1,17 +1,15 @@
--- `train::work_out` meets its contract: 7, 8 and 10, or the answer on tables that are not refused. Distance and filling order hold of any
--- answer that a car gets alone.
-use mathlib.Core.Path.{_≡_, refl, _∙_}
+-- `train::work_out` meets its contract: distance and filling order hold of any answer that a car gets alone.
+use mathlib.Core.Path.{_≡_}
 use mathlib.Core.List.{List}
 use borrow.Author.Needs.{needs}
 use denote.Ref.{now}
-use Rattle.base.specs.Answer.{Answer, refusal}
+use Rattle.base.specs.Answer.{Answer}
 use Rattle.table.specs.Table.{Table}
 use Rattle.table.specs.Layout.{tablesOf}
 use Rattle.table.specs.TablesCard.{TablesRight}
 use Rattle.table.proofs.TablesCard.{tables-right}
 use Rattle.car.specs.declared.Car.{Car}
 use Rattle.car.specs.Car.{measured, dipped, aloneAnswer, carTold}
-use Rattle.car.proofs.Answers.{alone-tables, alone-away, alone-own}
 use Rattle.consist.specs.Demand3.{Close, InOrder, alone}
 use Rattle.car.specs.Card.{AllRight}
 use Rattle.car.specs.OperationsCard.{OperationsRight}
@@ -36,26 +34,16 @@ whole ts c a e =
     let h = dipped c in
     (e, rw e (close ts (measured c) (aloneAnswer ts h) (alone h)), rw e (in-order ts (measured c) (aloneAnswer ts h) (alone h)), all-right, operations-right, tables-right, exact-right, order-example)
 
-alone-refusal-requires : tie.Need-alone-refusal-requires
-alone-refusal-requires c κs = search needs
+expansion-requires : tie.Need-expansion-requires
+expansion-requires c κs = search needs
+
+work-alone-requires : tie.Need-work-alone-requires
+work-alone-requires c κs = search needs
 
 returns : tie.Need-returns
 returns c =
     let s = c .before .before in
-    whole (all s) (s .args .car) (refusal (c .before .alone-refusal .result))
-    (alone-away (all s) (dipped (s .args .car)) refl (c .before .alone-refusal .ensures) (c .if1 .taken))
-
-work-on-requires : tie.Need-work-on-requires
-work-on-requires c κs =
-    let s = c .before .before in
-    record { accepted = alone-tables (all s) (s .args .car .number) (c .before .alone-refusal .ensures) (c .if1 .left) }
-
-returns-2 : tie.Need-returns-2
-returns-2 c =
-    let l = c .before in
-    let s = l .before .before in
-    whole (all s) (s .args .car) (carTold (c .work-on .result))
-    (c .work-on .ensures ∙ alone-own (all s) (dipped (s .args .car)) refl (l .before .alone-refusal .ensures) (l .if1 .left))
+    whole (all s) (s .args .car) (carTold (c .work-alone .result)) (c .work-alone .ensures)
 
 pub work-out-spec : {M : Type 1} → statement M
-work-out-spec = tie.close (tie.spec alone-refusal-requires returns work-on-requires returns-2)
+work-out-spec = tie.close (tie.spec expansion-requires work-alone-requires returns)

@@ -45,14 +45,18 @@ returns c car h =
 abbrev tally : tie.Start → Tally
 tally s = record { sums = s .args .train .sums; held = s .args .train .held }
 
+expansion-requires : tie.Need-expansion-requires
+expansion-requires c κs = search needs
+
 enter-probed-on-requires : tie.Need-enter-probed-on-requires
 unfolding all
 enter-probed-on-requires c κs =
-    let l = c .before .before .before .before in
+    let x = c .before .before .before .before in
+    let l = x .before .before in
     let s = start (l .before) in
     let t = s .args .train in
     let k = rows-sound (tally s) (t .numbers) (t .grades) (t .grosses) (t .nets) (sound l .1) (sixty s) in
-    (k .0, k .1, record { accepted = sound l .0 })
+    (k .0, k .1, record { accepted = sound l .0 }, x .expansion .ensures)
 
 with-sums-requires : tie.Need-with-sums-requires
 with-sums-requires c κs = c .enter-probed-on .ensures .1
@@ -61,11 +65,11 @@ returns-2 : tie.Need-returns-2
 unfolding all
 returns-2 c car h =
     let e = c .before in
-    let l = e .before .before .before .before .before in
+    let l = e .before .before .before .before .before .before .before in
     let s = start (l .before) in
     let t = s .args .train in
     let k = rows-entered (tally s) (t .numbers) (t .grades) (t .grosses) (t .nets) (sound l .1) (all s) (probed car) (e .enter-probed-on .ensures .0 car h) in
     (k .0, c .with-sums .ensures ∙ k .1)
 
 pub enter-probed-spec : {M : Type 1} → statement M
-enter-probed-spec = tie.close (tie.spec bar-refusal-requires returns enter-probed-on-requires with-sums-requires returns-2)
+enter-probed-spec = tie.close (tie.spec bar-refusal-requires returns expansion-requires enter-probed-on-requires with-sums-requires returns-2)

@@ -1,41 +1,16 @@
--- `train::work_probed` meets its contract: 7, 8 and 10, or the answer on tables that are not refused.
-use mathlib.Core.Path.{_≡_, ap, _∙_}
-use mathlib.Core.List.{List, _++_}
+-- `train::work_probed` meets its contract.
 use borrow.Author.Needs.{needs}
-use denote.Ref.{now}
-use Rattle.base.specs.Answer.{firstNumber}
-use Rattle.table.specs.Table.{Table, tablesTests}
-use Rattle.table.specs.Layout.{tablesOf}
-use Rattle.car.specs.declared.ProbeCar.{ProbeCar}
-use Rattle.car.specs.Car.{numberTests, probed}
-use Rattle.car.specs.Inner.{Stands}
-use Rattle.car.proofs.Answers.{alone-tables, alone-away, alone-own}
 use Rattle.train.proofs.probed.work_probed.Statement.{statement}
 use Rattle.train.proofs.probed.work_probed.Tie as tie
 
-abbrev all : tie.Start → List Table
-all s = tablesOf (s .args .d) (now (s .args .levels)) (now (s .args .capacities))
+expansion-requires : tie.Need-expansion-requires
+expansion-requires c κs = search needs
 
--- the number tested is that of the probe's car
-of-car : (a : tie.After-alone-refusal) (car : ProbeCar) → let s = a .before in
-    Stands (s .args .p) car → a .alone-refusal .result ≡ firstNumber (tablesTests (all s) ++ numberTests (car .number))
-of-car a car h = let s = a .before in a .alone-refusal .ensures ∙ ap (λ n. firstNumber (tablesTests (all s) ++ numberTests n)) (h .number)
-
-alone-refusal-requires : tie.Need-alone-refusal-requires
-alone-refusal-requires c κs = search needs
+work-probed-alone-requires : tie.Need-work-probed-alone-requires
+work-probed-alone-requires c κs = search needs
 
 returns : tie.Need-returns
-returns c car h = alone-away (all (c .before .before)) (probed car) (h .none) (of-car (c .before) car h) (c .if1 .taken)
-
-work-probed-on-requires : tie.Need-work-probed-on-requires
-work-probed-on-requires c κs =
-    let s = c .before .before in
-    record { accepted = alone-tables (all s) (s .args .p .number) (c .before .alone-refusal .ensures) (c .if1 .left) }
-
-returns-2 : tie.Need-returns-2
-returns-2 c car h =
-    let l = c .before in
-    c .work-probed-on .ensures car h ∙ alone-own (all (l .before .before)) (probed car) (h .none) (of-car (l .before) car h) (l .if1 .left)
+returns c = c .work-probed-alone .ensures
 
 pub work-probed-spec : {M : Type 1} → statement M
-work-probed-spec = tie.close (tie.spec alone-refusal-requires returns work-probed-on-requires returns-2)
+work-probed-spec = tie.close (tie.spec expansion-requires work-probed-alone-requires returns)

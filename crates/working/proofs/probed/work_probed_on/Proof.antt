@@ -20,7 +20,7 @@ abbrev all : tie.Start → List Table
 all s = tablesOf (s .args .d) (now (s .args .levels)) (now (s .args .capacities))
 
 early : (c : tie.After-early-refusal) → let s = c .before .before in c .early-refusal .result ≡ firstNumber (earlyTests (all s) (s .args .p .measured))
-early c = let s = c .before .before in c .early-refusal .ensures (now (s .args .levels)) (now (s .args .capacities)) (s .pre)
+early c = let s = c .before .before in c .early-refusal .ensures (now (s .args .levels)) (now (s .args .capacities)) (s .pre .0)
 
 -- the number handed on is that of the probe's car
 of-car : (c : tie.After-early-refusal) (car : ProbeCar) → let s = c .before .before in Stands (s .args .p) car → c .early-refusal .result ≡ firstNumber (earlyTests (all s) (probedMeasured car))
@@ -35,7 +35,7 @@ returns c car h = let s = c .before .before .before in own-early (all s) (probed
 work-measured-requires : tie.Need-work-measured-requires
 work-measured-requires c κs =
     let s = c .before .before .before in
-    (s .pre, passed (earlyTests (all s) (s .args .p .measured)) refl (early (c .before)) (c .if1 .left))
+    (s .pre .0, passed (earlyTests (all s) (s .args .p .measured)) refl (early (c .before)) (c .if1 .left), s .pre .1)
 
 returns-2 : tie.Need-returns-2
 returns-2 c car h =
