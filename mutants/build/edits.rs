@@ -68,6 +68,12 @@ pub const MARKS: &[(&str, &str, &str, &str)] = &[
          crate::hooks::place(crate::hooks::GIVEN, crate::wrong::dip(self).0);",
         "",
     ),
+    (
+        "thermal",
+        "«nearest(18_696_960_000_000 + 4_861_800_000 * density, density * density)»",
+        "crate::hooks::stored(density, ",
+        ")",
+    ),
     ("thermal", "«term = nearest»", "crate::hooks::place(crate::hooks::POWER, power as u32);", ""),
     ("thermal", "«Density20(density_at»", "crate::hooks::place(crate::hooks::AT, 20);", ""),
     (

@@ -1,6 +1,6 @@
 //! What the rewritten modules ask at every point: whether to go wrong there, and how.
 
-use std::sync::atomic::{AtomicU32, AtomicU64, AtomicUsize, Ordering::Relaxed};
+use std::sync::atomic::{AtomicBool, AtomicU32, AtomicU64, AtomicUsize, Ordering::Relaxed};
 use std::sync::{Mutex, MutexGuard, OnceLock};
 
 use crate::turned::refusal::Refusal;
@@ -22,6 +22,12 @@ static HIGH: AtomicU32 = AtomicU32::new(0);
 static SERIAL: AtomicU64 = AtomicU64::new(1);
 static ASKED: AtomicU32 = AtomicU32::new(0);
 static MET: Mutex<Vec<u128>> = Mutex::new(Vec::new());
+
+/// The density whose stored B is off by one, in 0.1 kg/m³, or 0, and whether it is one more.
+static STORED: AtomicU32 = AtomicU32::new(0);
+static MORE: AtomicBool = AtomicBool::new(false);
+/// The densities whose B is taken while the points that are met are noted.
+static DENSITIES: Mutex<Vec<u32>> = Mutex::new(Vec::new());
 
 /// Numbers that a wrong program keeps beside the train: for refusal 11, and to be struck.
 static KEPT: Mutex<Vec<u32>> = Mutex::new(Vec::new());
@@ -59,13 +65,15 @@ pub const READING: usize = 24;
 pub const PROBE: usize = 25;
 /// Whether a probe's car is at hand, of whichever kind: 1 where it is.
 pub const BY_PROBE: usize = 26;
+/// Whether B of a density is asked by itself: 1 where it is.
+pub const BY_ITSELF: usize = 30;
 const SKIPPED: usize = 11;
 const TYPES: usize = 12;
 const ROW_LEVEL: usize = 16;
 const ROW_CAPACITY: usize = 17;
 const TABLES: usize = 18;
 const FLOATS: usize = 27;
-const KEYS: usize = 30;
+const KEYS: usize = 31;
 
 /// Where a wrong way is taken: where the key's number lies between two bounds.
 #[derive(Clone, Copy, Debug, PartialEq, Eq)]
@@ -143,6 +151,32 @@ pub fn exchange(order: usize, first: u32, second: u32) {
     ORDER.store(order, Relaxed);
     FIRST.store(first, Relaxed);
     SECOND.store(second, Relaxed);
+}
+
+/// Sets the density whose stored B is one more, or one less, from here on; 0 for none.
+pub fn put_off(density: u32, more: bool) {
+    STORED.store(density, Relaxed);
+    MORE.store(more, Relaxed);
+}
+
+/// B of a density as the list has it.
+pub fn stored(density: u64, right: u64) -> u64 {
+    if POINT.load(Relaxed) == NOTED {
+        held(&DENSITIES).push(density as u32);
+    }
+    match u64::from(STORED.load(Relaxed)) == density {
+        false => right,
+        true if MORE.load(Relaxed) => right + 1,
+        true => right - 1,
+    }
+}
+
+/// The densities whose B was taken while points were noted last, rising, each once.
+pub fn densities() -> Vec<u32> {
+    let mut found = std::mem::take(&mut *held(&DENSITIES));
+    found.sort_unstable();
+    found.dedup();
+    found
 }
 
 /// Starts a sheet.

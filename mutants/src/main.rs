@@ -2,6 +2,7 @@
 //! the generator of sheets does, and which neither: `mutants [OPTION NUMBER]...`; the README has the options.
 
 mod draw;
+mod expansion;
 mod grid;
 mod hooks;
 mod laboratory;
@@ -20,12 +21,14 @@ mod turned {
     include!(concat!(env!("OUT_DIR"), "/turned.rs"));
 }
 mod wrong;
+mod wrong_expansion;
 mod wrong_probe;
 
 use std::process::ExitCode;
 
 use reference::conformance::vectors;
 
+use expansion::Densities;
 use mutants::Mutant;
 use trial::Trial;
 
@@ -155,9 +158,11 @@ fn kit(first: usize) -> Kit {
     let checks = vectors::all::<vectors::stick::Vector>();
     let trains = vectors::all::<vectors::train::Vector>();
     let probes = probe::of_vectors();
+    let densities = expansion::of_vectors();
     let sheets = cases.len().min(first);
     let vectors = [cars.len(), reports.len(), levels.len(), checks.len(), trains.len()];
     let vectors = vectors.iter().sum::<usize>() + probes.len();
+    let vectors = vectors + densities.iter().map(Densities::count).sum::<usize>();
     let cases = cases.into_iter().take(first);
     let trials = cases
         .map(|case| Trial::new(case.name.to_string(), case.sheet))
@@ -167,6 +172,7 @@ fn kit(first: usize) -> Kit {
         .chain(checks.into_iter().map(Trial::of_check))
         .chain(trains.into_iter().map(Trial::of_train))
         .chain(probes.into_iter().map(Trial::of_probe))
+        .chain(densities.into_iter().map(Trial::of_densities))
         .collect();
     Kit { trials, sheets, vectors }
 }

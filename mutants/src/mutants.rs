@@ -1,6 +1,6 @@
 //! The list of wrong programs: every wrong way at every point, also held to one line, field, table,
-//! car, strike or number of a probe, and every two refusals of a car, of a report, of a stick's check, of a
-//! strike or of a probe's car, tested in the other order.
+//! car, strike or number of a probe, every two refusals of a car, of a report, of a stick's check, of a
+//! strike or of a probe's car, tested in the other order, and every entry of a stored list of B off by one.
 
 use std::fmt;
 use std::sync::OnceLock;
@@ -14,6 +14,8 @@ pub enum Mutant {
     Point(usize, usize, usize),
     /// The place of an order, and two of its refusals, the first of which is tested directly after the second.
     Order(usize, u32, u32),
+    /// A density in 0.1 kg/m³ whose stored B is one more, or else one less.
+    Stored(u32, bool),
 }
 
 const EVERYWHERE: Context = Context { key: hooks::ALWAYS, low: 0, high: 0 };
@@ -44,6 +46,9 @@ fn keys(point: &Point) -> &'static [usize] {
         }
         ("thermal", "numbered" | "expansion" | "volume_at_temperature") => {
             &[hooks::STICK, hooks::GRADE, hooks::BY_PROBE]
+        }
+        ("thermal", "coefficient") => {
+            &[hooks::AT, hooks::STICK, hooks::GRADE, hooks::BY_PROBE, hooks::BY_ITSELF]
         }
         ("thermal", _) => &[hooks::AT, hooks::STICK, hooks::GRADE, hooks::BY_PROBE],
         ("mass", _) => &[hooks::STICK, hooks::GRADE, hooks::TABLE, hooks::BY_PROBE],
@@ -106,7 +111,7 @@ fn ranges(key: usize) -> Vec<(u32, u32)> {
         hooks::HANDED_IN => each(hooks::TO_ENTER..=hooks::TO_STRIKE),
         hooks::READING => each(hooks::LEVEL..=hooks::DENSITY),
         hooks::PROBE => each(hooks::ONE..=hooks::PERMITTED),
-        hooks::BY_PROBE => each(1..=1),
+        hooks::BY_PROBE | hooks::BY_ITSELF => each(1..=1),
         _ => {
             each(1..=60).into_iter().chain([(61, 61), (61, 120), (119, 119), (120, 120)]).collect()
         }
@@ -136,10 +141,15 @@ fn contexts(point: &Point) -> Vec<Context> {
 }
 
 /// Whether a wrong way is tried in a context: some are for fields, some for one line, some for all lines,
-/// some for a probe's cars alone.
+/// some for a probe's cars alone. A stored list is one for all, and is held to V15, which sheets show, and to
+/// B by itself, which vectors do.
 fn is_tried(name: &str, context: Context) -> bool {
     match context.key {
-        hooks::ALWAYS | hooks::BY_PROBE => true,
+        hooks::ALWAYS => true,
+        _ if name.starts_with("stored") => {
+            matches!((context.key, context.low), (hooks::AT, 15) | (hooks::BY_ITSELF, _))
+        }
+        hooks::BY_PROBE => true,
         _ if name.ends_with("as handed over") => false,
         hooks::FIELD => name.starts_with("each field"),
         hooks::LINE | hooks::ANSWER => {
@@ -159,7 +169,12 @@ pub fn all() -> Vec<Mutant> {
             places.map(move |place| Mutant::Point(point, choice + 1, place))
         })
     });
-    of_points.chain((0..hooks::ORDERS.len()).flat_map(exchanged)).collect()
+    of_points.chain((0..hooks::ORDERS.len()).flat_map(exchanged)).chain(stored()).collect()
+}
+
+/// Every entry of a stored list of B, one more and one less.
+fn stored() -> impl Iterator<Item = Mutant> {
+    (9_000..=9_900).flat_map(|density| [true, false].map(|more| Mutant::Stored(density, more)))
 }
 
 /// Every two refusals of an order in the other one; 7 and 8 are tested line by line.
@@ -190,6 +205,9 @@ impl fmt::Display for Mutant {
                     0 => Ok(()),
                     probe => write!(to, " {}", probe_text(probe)),
                 }
+            }
+            Self::Stored(density, more) => {
+                write!(to, "stored | B of {density} | one {} |", if more { "more" } else { "less" })
             }
         }
     }
@@ -235,6 +253,7 @@ impl fmt::Display for Context {
             }
             hooks::PROBE => write!(to, "{}", probe_text(low)),
             hooks::BY_PROBE => write!(to, "a probe's car"),
+            hooks::BY_ITSELF => write!(to, "B by itself"),
             hooks::STRIKE => write!(to, "strike {low}"),
             hooks::PLACE if low == high => write!(to, "place {low}"),
             hooks::PLACE => write!(to, "place {low} to {high}"),

@@ -1,5 +1,6 @@
 //! Trying a wrong program on sheets, on cars with given errors, on laboratories' reports, on levels, on
-//! sticks set against the tape, on trains that are handed in and on a probe's numbers and cars.
+//! sticks set against the tape, on trains that are handed in, on a probe's numbers and cars and on densities
+//! whose B is asked.
 
 use std::panic::{self, AssertUnwindSafe};
 
@@ -7,6 +8,7 @@ use reference::conformance::vectors::permitted::Vector;
 use reference::conformance::vectors::stick::Vector as Check;
 use reference::conformance::vectors::train::Vector as HandedIn;
 
+use crate::expansion::Densities;
 use crate::hooks;
 use crate::laboratory::Reports;
 use crate::mutants::{contexts_of, Mutant};
@@ -25,6 +27,8 @@ enum Question {
     Train(Box<HandedIn>),
     /// A probe's numbers or car.
     Probe(Asked),
+    /// B of densities.
+    Expansion(Densities),
 }
 
 impl Question {
@@ -38,6 +42,7 @@ impl Question {
             Self::StickAgainstTape(check) => stick::right(check),
             Self::Train(handed_in) => train::right(handed_in),
             Self::Probe(asked) => asked.right(),
+            Self::Expansion(densities) => densities.right(),
         }
     }
 
@@ -51,16 +56,19 @@ impl Question {
             Self::StickAgainstTape(check) => stick::turned(check),
             Self::Train(handed_in) => train::turned(handed_in),
             Self::Probe(asked) => asked.turned(),
+            Self::Expansion(densities) => densities.turned(),
         }
     }
 }
 
-/// A question, its answer, and the contexts in which the right program meets each point on the way.
+/// A question, its answer, the contexts in which the right program meets each point on the way, and the
+/// densities whose B it takes.
 pub struct Trial {
     pub name: String,
     question: Question,
     answer: Vec<u8>,
     met: Vec<u128>,
+    densities: Vec<u32>,
 }
 
 impl Trial {
@@ -100,6 +108,11 @@ impl Trial {
         Self::of(asked.name(), Question::Probe(asked))
     }
 
+    /// Densities, and B of each.
+    pub fn of_densities(densities: Densities) -> Self {
+        Self::of(densities.name(), Question::Expansion(densities))
+    }
+
     /// # Panics
     ///
     /// If the rewritten program, with nothing gone wrong, does not give the reference's answer.
@@ -108,7 +121,7 @@ impl Trial {
         let mut answered = Vec::new();
         let met = hooks::met(|| answered = question.turned());
         assert_eq!(answered, answer, "{name}: the copy is not the reference");
-        Self { name, question, answer, met }
+        Self { name, question, answer, met, densities: hooks::densities() }
     }
 
     /// Whether the trial comes to the place where the wrong program goes wrong. Lists of constants
@@ -119,6 +132,7 @@ impl Trial {
                 POINTS[point].function.is_empty() || self.met[point] >> place & 1 == 1
             }
             Mutant::Order(order, ..) => hooks::ORDERS[order].probe == self.probe(),
+            Mutant::Stored(density, _) => self.densities.binary_search(&density).is_ok(),
         }
     }
 
@@ -148,9 +162,11 @@ pub fn caught_by(mutant: Mutant, trials: &[Trial], order: &[usize]) -> Option<us
             hooks::go_wrong(point, choice, contexts_of(point)[place]);
         }
         Mutant::Order(order, first, second) => hooks::exchange(order, first, second),
+        Mutant::Stored(density, more) => hooks::put_off(density, more),
     }
     let found = order.iter().position(|&place| trials[place].catches(mutant));
     hooks::go_wrong(hooks::NONE, 0, contexts_of(0)[0]);
     hooks::exchange(0, 0, 0);
+    hooks::put_off(0, false);
     found
 }

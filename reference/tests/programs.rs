@@ -7,7 +7,8 @@ use std::process::{Command, Stdio};
 
 use reference::conformance;
 use reference::conformance::vectors::{
-    self, laboratory, permitted, probe, probe_car, probe_error, probe_train, stick, tape, train,
+    self, expansion, laboratory, permitted, probe, probe_car, probe_error, probe_train, stick,
+    tape, train,
 };
 use reference::{listing, sheets};
 
@@ -70,8 +71,8 @@ fn make_conformance_writes_sheets_and_listings() {
     let made = Command::new(env!("CARGO_BIN_EXE_make_conformance")).arg(&folder).status().unwrap();
     assert!(made.success());
     let cases = conformance::cases();
-    // The sheets and listings, the index, the figures on the way and nine files of vectors.
-    assert_eq!(fs::read_dir(&folder).unwrap().count(), 2 * cases.len() + 11);
+    // The sheets and listings, the index, the figures on the way and ten files of vectors.
+    assert_eq!(fs::read_dir(&folder).unwrap().count(), 2 * cases.len() + 12);
     let written = |name: &str| fs::read_to_string(folder.join(name)).unwrap();
     assert_eq!(written("permitted-error.vectors"), vectors::file::<permitted::Vector>());
     assert_eq!(written("laboratory-density.vectors"), vectors::file::<laboratory::Vector>());
@@ -82,6 +83,7 @@ fn make_conformance_writes_sheets_and_listings() {
     assert_eq!(written("probe-car.vectors"), vectors::file::<probe_car::Vector>());
     assert_eq!(written("probe-train.vectors"), vectors::file::<probe_train::Vector>());
     assert_eq!(written("probe-error.vectors"), vectors::file::<probe_error::Vector>());
+    assert_eq!(written("expansion.vectors"), vectors::file::<expansion::Vector>());
     for case in cases {
         assert_eq!(fs::read(folder.join(format!("{}.sheet", case.name))).unwrap(), case.sheet);
         assert_eq!(fs::read(folder.join(format!("{}.listing", case.name))).unwrap(), case.listing);

@@ -5,8 +5,8 @@ use std::collections::HashSet;
 use std::fmt::Debug;
 
 use reference::conformance::vectors::{
-    all, expected, file, laboratory, permitted, probe, probe_car, probe_error, probe_train, read,
-    stick, tape, train, Written,
+    all, expansion, expected, file, laboratory, permitted, probe, probe_car, probe_error,
+    probe_train, read, stick, tape, train, Written,
 };
 use reference::probe::Reading;
 use reference::sheet::Event;
@@ -46,6 +46,7 @@ fn files() {
     hold::<probe_car::Vector>(450);
     hold::<probe_train::Vector>(300);
     hold::<probe_error::Vector>(150);
+    hold::<expansion::Vector>(950);
 }
 
 #[test]
@@ -72,6 +73,25 @@ fn both_ends_of_every_metre_are_tried() {
     let vectors = all::<tape::Vector>();
     for level in [9, 10, 10_000, 10_001, 20_000, 20_001, 30_000, 30_001, 36_000, 36_001] {
         assert!(vectors.iter().any(|vector| vector.level == level), "{level}");
+    }
+}
+
+#[test]
+fn names_tell_the_outcome_of_a_density() {
+    for vector in all::<expansion::Vector>() {
+        let name = &vector.name;
+        let number = vector.work_out().err().map(|refusal| refusal.number());
+        assert!(name.starts_with("parting-") || number == named_refusal(name), "{name}");
+        let field = name.strip_prefix("density-").or(name.strip_prefix("card-"));
+        assert!(field.is_none_or(|field| field == vector.density.to_string()), "{name}");
+    }
+}
+
+#[test]
+fn every_density_field_is_tried_and_both_sides_of_the_list() {
+    let vectors = all::<expansion::Vector>();
+    for density in 8_999..=9_901 {
+        assert!(vectors.iter().any(|vector| vector.density == density), "{density}");
     }
 }
 

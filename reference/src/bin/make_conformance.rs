@@ -1,6 +1,6 @@
 //! Writes the conformance sheets, their listings, their index and figures on the way, and the vectors
 //! of the permitted error, of the laboratory's density, of the tape allowance, of the stick against the
-//! tape, of trains that are handed in and of a probe: `make_conformance FOLDER`.
+//! tape, of trains that are handed in, of a probe and of B: `make_conformance FOLDER`.
 
 use std::fs;
 use std::path::Path;
@@ -8,8 +8,8 @@ use std::process::ExitCode;
 
 use reference::conformance;
 use reference::conformance::vectors::{
-    self, laboratory, permitted, probe, probe_car, probe_error, probe_train, stick, tape, train,
-    Written,
+    self, expansion, laboratory, permitted, probe, probe_car, probe_error, probe_train, stick,
+    tape, train, Written,
 };
 use reference::listing;
 
@@ -42,6 +42,7 @@ fn write_cases(folder: &Path) -> std::io::Result<()> {
     write_vectors::<probe_car::Vector>(folder)?;
     write_vectors::<probe_train::Vector>(folder)?;
     write_vectors::<probe_error::Vector>(folder)?;
+    write_vectors::<expansion::Vector>(folder)?;
     for case in cases {
         let listing = listing::of(&case.sheet);
         fs::write(folder.join(format!("{}.sheet", case.name)), &case.sheet)?;

@@ -38,7 +38,7 @@ const REFUSALS: [&str; 31] = [
 ];
 
 /// Words of a name that tell the step, or the rule, that it tries.
-const STEPS: [(&str, &str); 27] = [
+const STEPS: [(&str, &str); 28] = [
     ("strike", "strikes"),
     ("full-train", "sixty held"),
     ("span", "refusal 23"),
@@ -58,6 +58,7 @@ const STEPS: [(&str, &str); 27] = [
     ("wall", "step 3"),
     ("sticks", "step 3"),
     ("coefficient", "step 4"),
+    ("expansion-9", "step 4"),
     ("square", "step 5"),
     ("exponent", "steps 4 to 6"),
     ("volume-at-15", "step 7"),
@@ -136,6 +137,7 @@ fn words(name: &str) -> String {
         ("figures", _) => format!("Figures that a wrong calculation misses: {plain}."),
         ("totals", _) => format!("Totals of each grade: {plain}."),
         ("strike", _) => format!("A car struck: {plain}."),
+        ("expansion", _) => format!("B of each density, told to the unit by V15: {plain}."),
         ("card", _) => format!("Figures of the rack card: {plain}."),
         ("source", _) => format!("From the standards: {plain}."),
         _ => format!("The sheet that the rules print: {plain}."),

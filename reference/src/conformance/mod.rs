@@ -11,6 +11,7 @@ mod damage_order;
 mod each_car;
 mod each_table;
 mod ends;
+mod expansion;
 pub mod figures;
 mod halves;
 pub mod index;
@@ -75,6 +76,7 @@ pub fn cases() -> Vec<Case> {
         wide::cases(),
         totals::cases(),
         strikes::cases(),
+        expansion::cases(),
     ]
     .into_iter()
     .flatten()

@@ -8,7 +8,7 @@ use crate::sheet::Sheet;
 use crate::thermal::{self, Density15, Stick, ONE};
 
 /// The sheets whose accepted cars are shown.
-const SHEETS: [&str; 9] = [
+const SHEETS: [&str; 10] = [
     "paper-sheet",
     "card-levels",
     "parting-expansion-of-wall-from-15",
@@ -18,6 +18,7 @@ const SHEETS: [&str; 9] = [
     "rounding-exponent-and-terms",
     "source-cylinder-of-31-rows",
     "figures-at-halves-1",
+    "expansion-9900",
 ];
 
 /// The figures as Markdown.

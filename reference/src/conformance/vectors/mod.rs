@@ -4,6 +4,7 @@
 //! The answers stand in an `answers.txt` for each file, worked out by a separate calculation; the tests
 //! compare them with what this package answers.
 
+pub mod expansion;
 pub mod laboratory;
 pub mod permitted;
 pub mod probe;
