@@ -19,9 +19,10 @@
  * What is only read may.
  * Threads: nothing is kept after a call and no memory is asked for, so calls from several threads at
  * once do not disturb each other.
- * Stack: 32,768 bytes are enough for every function; rack_answer_sheet takes about 25,500 of them,
- * rack_permitted_error_probe about 14,000, rack_train_enter, rack_train_enter_probe and rack_train_strike
- * about 3,000, each other function less than 2,000.
+ * Stack: 32,768 bytes are enough for every function; rack_answer_sheet takes about 29,000 of them,
+ * rack_permitted_error_probe about 17,000, rack_train_enter and rack_train_enter_probe about 6,000, each
+ * other function that takes a car or a density about 4,000, of which 3,604 are the stored coefficients of
+ * expansion, rack_train_strike about 3,000, the rest less than 2,000.
  *
  * Units: a mean level, a stick level and the level of the tape allowance in 0.1 mm; readings, those of the
  * tape too, water levels and the levels of a table's rows in mm; capacities in dm3 at 20 C, volumes in

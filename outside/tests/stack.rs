@@ -17,11 +17,13 @@ use reference::{sheets, ANSWER_BYTES};
 
 /// Bytes that the header says are enough for all.
 const ENOUGH: usize = 32_768;
-/// What it says of a sheet, of the permitted error of a probe's car and of a train, each with 500 bytes for
-/// "about", and of any other.
-const OF_A_SHEET: usize = 26_000;
-const OF_A_PROBES_ERROR: usize = 14_500;
-const OF_A_TRAIN: usize = 3_500;
+/// What it says of a sheet, of the permitted error of a probe's car, of a car entered in a train, of the others that
+/// look B up and of a strike, each with 500 bytes for "about", and of any other.
+const OF_A_SHEET: usize = 29_500;
+const OF_A_PROBES_ERROR: usize = 17_500;
+const OF_AN_ENTRY: usize = 6_500;
+const OF_A_DENSITY: usize = 4_500;
+const OF_A_STRIKE: usize = 3_500;
 const OF_ANY_OTHER: usize = 2_000;
 
 /// What the stack of a call holds before it, 16 bytes at a time, and how many times.
@@ -83,6 +85,11 @@ fn hold_to(most: usize, name: &str, operation: &mut dyn FnMut() -> u32) {
     assert!(bytes <= most.min(ENOUGH), "{name}: {bytes}");
 }
 
+/// Holds one that looks B up.
+fn hold_density(name: &str, operation: &mut dyn FnMut() -> u32) {
+    hold_to(OF_A_DENSITY, name, operation);
+}
+
 /// Holds one of those that the header does not name.
 fn hold(name: &str, operation: &mut dyn FnMut() -> u32) {
     hold_to(OF_ANY_OTHER, name, operation);
@@ -111,11 +118,13 @@ fn figures() {
     hold("stick_against_tape", &mut || {
         outside::stick_against_tape(90, 20, &[7; TAPE_READINGS], &mut stick)
     });
-    hold("expansion_of", &mut || outside::expansion_of(9_500, &mut figure));
-    hold("factor_of", &mut || outside::factor_of(9_500, 600, &mut wide));
-    hold("density_at_20", &mut || outside::density_at_20(9_500, &mut figure));
-    hold("density_at_20_of_grade", &mut || outside::density_at_20_of_grade(3, 9_500, &mut figure));
-    hold("density_at_15", &mut || outside::density_at_15(9_300, 500, &mut figure));
+    hold_density("expansion_of", &mut || outside::expansion_of(9_500, &mut figure));
+    hold_density("factor_of", &mut || outside::factor_of(9_500, 600, &mut wide));
+    hold_density("density_at_20", &mut || outside::density_at_20(9_500, &mut figure));
+    hold_density("density_at_20_of_grade", &mut || {
+        outside::density_at_20_of_grade(3, 9_500, &mut figure)
+    });
+    hold_density("density_at_15", &mut || outside::density_at_15(9_300, 500, &mut figure));
     hold("oil_share", &mut || outside::oil_share(3, 50, 20, &mut figure));
     hold("oil_share_any_grade", &mut || outside::oil_share_any_grade(50, 20, &mut figure));
     hold("check_tables", &mut || outside::check_tables(TABLES));
@@ -125,21 +134,21 @@ fn figures() {
 #[test]
 fn cars_and_trains() {
     let (mut figures, mut permitted) = ([0; FIGURES], [0; PERMITTED]);
-    hold("work_out", &mut || outside::work_out(TABLES, &CAR, &mut figures));
-    hold("permitted_error", &mut || {
+    hold_density("work_out", &mut || outside::work_out(TABLES, &CAR, &mut figures));
+    hold_density("permitted_error", &mut || {
         outside::permitted_error(TABLES, &CAR, &[0; ERRORS], &mut permitted)
     });
     let mut train = [1; TRAIN];
     hold("train_empty", &mut || outside::train_empty(&mut train));
     for held in [0, 59] {
         train = train_of_cars(held);
-        hold_to(OF_A_TRAIN, "train_enter", &mut || {
+        hold_to(OF_AN_ENTRY, "train_enter", &mut || {
             outside::train_enter(&mut train, TABLES, &CAR, &mut figures)
         });
     }
     for held in [1, 60] {
         train = train_of_cars(held);
-        hold_to(OF_A_TRAIN, "train_strike", &mut || outside::train_strike(&mut train, held));
+        hold_to(OF_A_STRIKE, "train_strike", &mut || outside::train_strike(&mut train, held));
     }
 }
 
@@ -151,7 +160,7 @@ fn the_probe() {
     }
     hold("set_tenths", &mut || outside::set_tenths(MEASURED, &mut set));
     let (mut figures, mut permitted) = ([0; FIGURES], [0; PERMITTED]);
-    hold("work_out_probe", &mut || {
+    hold_density("work_out_probe", &mut || {
         outside::work_out_probe(TABLES, &PROBED, MEASURED, &mut figures)
     });
     hold_to(OF_A_PROBES_ERROR, "permitted_error_probe", &mut || {
@@ -159,7 +168,7 @@ fn the_probe() {
     });
     for held in [0, 59] {
         let mut train = train_of_cars(held);
-        hold_to(OF_A_TRAIN, "train_enter_probe", &mut || {
+        hold_to(OF_AN_ENTRY, "train_enter_probe", &mut || {
             outside::train_enter_probe(&mut train, TABLES, &PROBED, MEASURED, &mut figures)
         });
     }

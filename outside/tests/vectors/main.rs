@@ -1,12 +1,14 @@
 //! The library's permitted error, laboratory's density, tape allowance, stick against the tape, trains handed
-//! in with a strike or a car, and the portable probe: every line of the files of vectors.
+//! in with a strike or a car, expansion of oil, and the portable probe: every line of the files of vectors.
 
 mod probe;
 
 use outside::slices::Slices;
 use outside::train::state_of;
 use outside::{ERRORS, FIELDS, FIGURES, PERMITTED, STICK, TRAIN};
-use reference::conformance::vectors::{all, laboratory, permitted, read, stick, tape, train};
+use reference::conformance::vectors::{
+    all, expansion, laboratory, permitted, read, stick, tape, train,
+};
 use reference::sheet::Event;
 use reference::stick::StickCheck;
 use reference::train::Train;
@@ -16,6 +18,7 @@ const LABORATORY_DENSITY: &str = include_str!("../../../conformance/laboratory-d
 const TAPE_ALLOWANCE: &str = include_str!("../../../conformance/tape-allowance.vectors");
 const STICK_AGAINST_TAPE: &str = include_str!("../../../conformance/stick-against-tape.vectors");
 const TRAIN_STRIKE: &str = include_str!("../../../conformance/train-strike.vectors");
+const EXPANSION: &str = include_str!("../../../conformance/expansion.vectors");
 
 /// What a place holds before it is lent: no figure.
 const LENT: u32 = 0xa5a5_a5a5;
@@ -74,6 +77,24 @@ fn expected_allowance(answer: &str) -> (u32, u32) {
     let (metres, seen) = answer.split_once(" | ").expect("an answer");
     let seen = seen.parse().expect("a number");
     if metres == "-" {
+        (seen, LENT)
+    } else {
+        (0, seen)
+    }
+}
+
+/// The number handed back and what the lent place holds.
+fn expansion_of(vector: &expansion::Vector) -> (u32, u32) {
+    let mut expansion = LENT;
+    let number = outside::expansion_of(vector.density, &mut expansion);
+    (number, expansion)
+}
+
+/// The same from a line's answer: a quotient with its remainder and B, or a dash and a refusal.
+fn expected_expansion(answer: &str) -> (u32, u32) {
+    let (quotient, seen) = answer.split_once(" | ").expect("an answer");
+    let seen = seen.parse().expect("a number");
+    if quotient == "-" {
         (seen, LENT)
     } else {
         (0, seen)
@@ -167,6 +188,15 @@ fn every_line_of_the_tape_allowance() {
     assert_eq!(vectors.len(), all::<tape::Vector>().len());
     for (vector, answer) in vectors {
         assert_eq!(tape_allowance(&vector), expected_allowance(answer), "{}", vector.name);
+    }
+}
+
+#[test]
+fn every_line_of_the_expansion() {
+    let vectors = read::<expansion::Vector>(EXPANSION);
+    assert_eq!(vectors.len(), all::<expansion::Vector>().len());
+    for (vector, answer) in vectors {
+        assert_eq!(expansion_of(&vector), expected_expansion(answer), "{}", vector.name);
     }
 }
 

@@ -4,7 +4,7 @@ use std::hint::black_box;
 
 use reference::laboratory;
 
-use crate::timing;
+use crate::calls;
 
 /// Reports in 0.1 kg/m³ and 0.1 °C: two that are printed in GOST R 8.787, a tie, the edges of 27.
 const REPORTS: [(u32, u32); 5] =
@@ -12,33 +12,20 @@ const REPORTS: [(u32, u32); 5] =
 
 /// Prints a line for each report.
 pub fn compare_all() {
-    println!();
-    println!("Nanoseconds for the density at 15 °C of one report, which the reference searches among all.");
-    println!(
-        "{:42} {:>6} {:>8} {:>9} {:>20}",
-        "report, 0.1 kg/m³ and 0.1 °C", "answer", "proved", "reference", "/ reference"
+    calls::head(
+        "Nanoseconds for the density at 15 °C of one report, which the reference searches among all.",
+        ["report, 0.1 kg/m³ and 0.1 °C", "answer"],
     );
     REPORTS.into_iter().for_each(|(reported, temperature)| compare(reported, temperature));
 }
 
 fn compare(reported: u32, temperature: u32) {
-    let mut density = 0;
-    let number = outside::density_at_15(reported, temperature, &mut density);
-    let answer = if number == 0 { density } else { number };
-    let expected = laboratory::density_at_15(reported, temperature);
-    let expected = expected.map_or_else(|refusal| refusal.number(), |density| density.0);
-    assert_eq!(answer, expected, "{reported} at {temperature}: answers differ");
-
-    let [proved, reference] = timing::least([
-        &mut || {
+    calls::compare_figure(
+        &format!("{reported} at {temperature}"),
+        |density| outside::density_at_15(black_box(reported), black_box(temperature), density),
+        || {
             let (reported, temperature) = black_box((reported, temperature));
-            black_box(outside::density_at_15(reported, temperature, black_box(&mut density)));
+            laboratory::density_at_15(reported, temperature).map(|density| density.0)
         },
-        &mut || {
-            let (reported, temperature) = black_box((reported, temperature));
-            black_box(laboratory::density_at_15(reported, temperature)).ok();
-        },
-    ]);
-    let name = format!("{reported} at {temperature}");
-    println!("{name:42} {answer:>6} {proved:>8.0} {reference:>9.0} {:>20.2}", proved / reference);
+    );
 }

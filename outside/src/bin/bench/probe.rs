@@ -9,11 +9,10 @@ use outside::{FIGURES, PERMITTED, PROBE_FIELDS, SET, TRAIN};
 use reference::operations::{self, HandedIn};
 use reference::permitted::Errors;
 use reference::probe::{ProbeCar, Reading, Set};
-use reference::refusal::Refusal;
 use reference::train::{Train, CARS};
 
-use crate::permitted::{four_full_tables, GIVEN};
-use crate::{timing, trains};
+use crate::permitted::GIVEN;
+use crate::{calls, cars, given, trains};
 
 /// At a half, the smallest, then such as are refused by 31 and by 32.
 const READINGS: [f32; 4] = [1_500.25, 1e-45, f32::NAN, 10_000_000.0];
@@ -27,63 +26,39 @@ const NOT_A_NUMBER: Set = Set { density: f32::NAN, ..MEASURED };
 
 /// Prints a line for each reading, each set and each call with a car.
 pub fn compare_all() {
-    println!();
-    println!("Nanoseconds for a probe's reading or set in tenths.");
-    println!(
-        "{:42} {:>6} {:>8} {:>9} {:>20}",
-        "reading, or set", "answer", "proved", "reference", "/ reference"
+    calls::head(
+        "Nanoseconds for a probe's reading or set in tenths.",
+        ["reading, or set", "answer"],
     );
     READINGS.into_iter().for_each(compare_reading);
     compare_set("set", MEASURED);
     compare_set("set, refused at its density", NOT_A_NUMBER);
 
-    println!();
-    println!("Nanoseconds for one call with a probe's car, its tables and train tested in each, a copy of");
-    println!("the train included.");
-    println!(
-        "{:42} {:>6} {:>8} {:>9} {:>20}",
-        "call", "answer", "proved", "reference", "/ reference"
+    calls::head(
+        "Nanoseconds for one call with a probe's car, its tables and train tested in each, a copy of\n\
+         the train included.",
+        ["call", "answer"],
     );
     let mut last = CAR;
     last[1] = 4;
     for (name, tables, car) in
-        [("small table", trains::tables(), CAR), ("four full", four_full_tables(), last)]
+        [("small table", given::small_table(), CAR), ("four full", given::four_full_tables(), last)]
     {
         compare_car(&format!("alone, {name}"), &tables, car, MEASURED);
         compare_error(&format!("permitted error, {name}"), &tables, car);
     }
-    compare_car("alone, refused at its density", &trains::tables(), CAR, NOT_A_NUMBER);
+    compare_car("alone, refused at its density", &given::small_table(), CAR, NOT_A_NUMBER);
     for held in [0, CARS - 1] {
         compare_enter(&format!("enter, {held} held"), &trains::train(held), MEASURED);
     }
     compare_enter("enter, refused, 59 held", &trains::train(CARS - 1), NOT_A_NUMBER);
 }
 
-/// The number that an answer hands back.
-fn number<T>(answer: &Result<T, Refusal>) -> u32 {
-    answer.as_ref().map_or_else(|refusal| refusal.number(), |_| 0)
-}
-
-/// Times both and prints the line of a call.
-fn print(name: &str, answer: u32, proved: &mut dyn FnMut(), reference: &mut dyn FnMut()) {
-    let [proved, reference] = timing::least([proved, reference]);
-    println!("{name:42} {answer:>6} {proved:>8.1} {reference:>9.1} {:>20.2}", proved / reference);
-}
-
 fn compare_reading(float: f32) {
-    let mut tenths = 0;
-    let answer = outside::reading_tenths(float, &mut tenths);
-    let expected = Reading::Level(float).tenths();
-    assert_eq!((answer, tenths), (number(&expected), expected.unwrap_or(0)), "{float}");
-    print(
+    calls::compare_figure(
         &format!("{float:?}"),
-        answer,
-        &mut || {
-            black_box(outside::reading_tenths(black_box(float), black_box(&mut tenths)));
-        },
-        &mut || {
-            black_box(Reading::Level(black_box(float)).tenths()).ok();
-        },
+        |tenths| outside::reading_tenths(black_box(float), tenths),
+        || Reading::Level(black_box(float)).tenths(),
     );
 }
 
@@ -92,8 +67,8 @@ fn compare_set(name: &str, set: Set) {
     let answer = outside::set_tenths(set, &mut tenths);
     let expected = set.tenths();
     let numbers = expected.map_or([0; SET], |set| [set.level, set.temperature, set.density.0]);
-    assert_eq!((answer, tenths), (number(&expected), numbers), "{name}");
-    print(
+    assert_eq!((answer, tenths), (calls::number(&expected), numbers), "{name}");
+    calls::line(
         name,
         answer,
         &mut || {
@@ -110,9 +85,9 @@ fn compare_car(name: &str, tables: &[HandedIn], fields: [u32; PROBE_FIELDS], set
     let mut figures = [0; FIGURES];
     let answer = outside::work_out_probe(slices.lent(), &fields, set, &mut figures);
     let expected = operations::work_out_probe(tables, &car);
-    let gross = expected.map_or(0, |figures| figures.gross);
-    assert_eq!((answer, figures[4]), (number(&expected), gross), "{name}");
-    print(
+    let handed = (calls::number(&expected), expected.map_or([0; FIGURES], cars::numbers));
+    assert_eq!((answer, figures), handed, "{name}");
+    calls::line(
         name,
         answer,
         &mut || {
@@ -133,8 +108,8 @@ fn compare_error(name: &str, tables: &[HandedIn], fields: [u32; PROBE_FIELDS]) {
     let answer = outside::permitted_error_probe(slices.lent(), &fields, set, &GIVEN, &mut figures);
     let expected = operations::permitted_error_probe(tables, &car, &errors);
     let limit = expected.map_or(0, |permitted| permitted.limit);
-    assert_eq!((answer, figures[6].into()), (number(&expected), limit), "{name}");
-    print(
+    assert_eq!((answer, figures[6].into()), (calls::number(&expected), limit), "{name}");
+    calls::line(
         name,
         answer,
         &mut || {
@@ -150,7 +125,7 @@ fn compare_error(name: &str, tables: &[HandedIn], fields: [u32; PROBE_FIELDS]) {
 }
 
 fn compare_enter(name: &str, train: &Train, set: Set) {
-    let (tables, car) = (trains::tables(), ProbeCar::new(CAR, set));
+    let (tables, car) = (given::small_table(), ProbeCar::new(CAR, set));
     let slices = Slices::new(&tables);
     let proved = |state: &mut [u32; TRAIN]| {
         let (fields, set) = black_box((&CAR, set));

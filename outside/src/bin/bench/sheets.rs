@@ -4,13 +4,10 @@ use std::hint::black_box;
 
 use reference::{sheets, ANSWER_BYTES, SHEET_BYTES};
 
-use crate::timing;
+use crate::{given, small_sheets, timing};
 
 /// Bytes of a sheet of four full tables and sixty cars.
 const FULL_BYTES: usize = 39_771;
-
-/// The sheet printed in the rules.
-const SMALL: &[u8] = include_bytes!("../../../../crates/rack/stdin");
 
 type Program = fn(&[u8], &mut [u8]) -> (usize, u32);
 
@@ -37,7 +34,11 @@ pub fn compare_all() {
         "{:42} {:>6} {:>8} {:>9} {:>8} {:>11} {:>7}",
         "sheet", "bytes", "proved", "reference", "tuned", "/ reference", "/ tuned"
     );
-    compare("small, the rules' own", &[SMALL.to_vec()], 0);
+    compare("small, the rules' own", &[given::SHEET.to_vec()], 0);
+    for (cars, grade) in [(1, 3), (2, 3), (10, 3), (60, 3), (60, 1)] {
+        let name = format!("small table, grade {grade}, cars: {cars}, 8 in turn");
+        compare(&name, &small_sheets::eight(cars, grade), 0);
+    }
     compare("half the length, 8 in turn", &half, 0);
     compare("full, 60 cars accepted, 8 in turn", &full, 0);
     compare("full, refused at its last line, 8 in turn", &refused, 9);

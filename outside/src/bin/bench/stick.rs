@@ -5,7 +5,7 @@ use std::hint::black_box;
 use outside::{STICK, TAPE_READINGS};
 use reference::stick::stick_against_tape;
 
-use crate::timing;
+use crate::calls;
 
 /// The stick level, in 0.1 mm.
 const LEVEL: u64 = 15_004;
@@ -15,11 +15,9 @@ const CHECKS: [(u32, u32); 5] = [(10, 1_500), (16, 1_500), (20, 1_502), (9, 1_50
 
 /// Prints a line for each stick.
 pub fn compare_all() {
-    println!();
-    println!("Nanoseconds for one stick level of 1,500.4 mm set against readings of the tape.");
-    println!(
-        "{:42} {:>6} {:>8} {:>9} {:>20}",
-        "readings, and the last place, mm", "answer", "proved", "reference", "/ reference"
+    calls::head(
+        "Nanoseconds for one stick level of 1,500.4 mm set against readings of the tape.",
+        ["readings, and the last place, mm", "answer"],
     );
     CHECKS.into_iter().for_each(|(count, last)| compare(count, last));
 }
@@ -36,7 +34,10 @@ fn compare(count: u32, last: u32) {
     };
     assert_eq!((number, figures), handed, "{count}: answers differ");
 
-    let [proved, reference] = timing::least([
+    let answer = expected.map_or_else(|refusal| refusal.number().into(), |check| check.difference);
+    calls::line(
+        &format!("{count}, {last}"),
+        answer,
         &mut || {
             let (stick, count, readings) = black_box((LEVEL, count, &readings));
             let figures = black_box(&mut figures);
@@ -46,8 +47,5 @@ fn compare(count: u32, last: u32) {
             let (stick, count, readings) = black_box((LEVEL, count, &readings));
             black_box(stick_against_tape(stick, count, *readings)).ok();
         },
-    ]);
-    let answer = expected.map_or_else(|refusal| refusal.number().into(), |check| check.difference);
-    let name = format!("{count}, {last}");
-    println!("{name:42} {answer:>6} {proved:>8.1} {reference:>9.1} {:>20.2}", proved / reference);
+    );
 }

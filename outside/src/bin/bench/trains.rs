@@ -5,27 +5,21 @@ use std::hint::black_box;
 use outside::slices::Slices;
 use outside::train::state_of;
 use outside::{FIELDS, FIGURES, TRAIN};
-use reference::car::Car;
-use reference::operations::{self, HandedIn};
-use reference::table::Row;
+use reference::operations;
 use reference::train::{Train, CARS};
+use reference::Refusal;
 
-use crate::timing;
+use crate::{calls, given};
 
-/// The rules' own table and car, which bears the number that a train of up to fifty-nine does not hold.
-const ROWS: [(u32, u32); 4] = [(0, 0), (1_000, 20_000), (2_000, 50_000), (3_000, 70_000)];
-const CAR: [u32; FIELDS] = [60, 1, 3, 1, 2, 1_500, 1_500, 0, 0, 0, 600, 9_500, 50, 20];
+/// The number of the car that is entered, which a train of up to fifty-nine does not hold.
+const NUMBER: u32 = 60;
 
 /// Prints a line for each train that a car is entered in, and for each that a number is struck from.
 pub fn compare_all() {
-    println!();
-    println!(
-        "Nanoseconds for one call with a train of accepted cars, which is tested whole, a copy of"
-    );
-    println!("the train included.");
-    println!(
-        "{:42} {:>6} {:>8} {:>9} {:>20}",
-        "call, cars held", "answer", "proved", "reference", "/ reference"
+    calls::head(
+        "Nanoseconds for one call with a train of accepted cars, which is tested whole, a copy of\n\
+         the train included.",
+        ["call, cars held", "answer"],
     );
     for (name, held) in [("enter", 0), ("enter", 30), ("enter", CARS - 1), ("enter, refused", CARS)]
     {
@@ -36,27 +30,20 @@ pub fn compare_all() {
     }
 }
 
-/// The rules' own table.
-pub fn tables() -> Vec<HandedIn> {
-    let rows: Vec<Row> = ROWS.map(|(level, capacity)| Row { level, capacity }).to_vec();
-    vec![HandedIn { car_type: 1, announced: 4, rows }]
-}
-
 /// A train of so many accepted cars, with the numbers 1, 2 and so on.
 pub fn train(held: usize) -> Train {
-    let mut train = Train::default();
+    let (mut train, tables) = (Train::default(), given::small_table());
     for number in 1..=held as u32 {
-        let car = Car { number, ..Car::from(CAR) };
-        operations::enter(&mut train, &tables(), &car).expect("an accepted car");
+        operations::enter(&mut train, &tables, &given::car(number)).expect("an accepted car");
     }
     train
 }
 
 fn compare_enter(name: &str, train: &Train) {
-    let (tables, car, state) = (tables(), Car::from(CAR), state_of(train));
-    let slices = Slices::new(&tables);
+    let (tables, car, state) = (given::small_table(), given::car(NUMBER), state_of(train));
+    let (slices, fields) = (Slices::new(&tables), <[u32; FIELDS]>::from(car));
     let proved = |state: &mut [u32; TRAIN]| {
-        outside::train_enter(state, slices.lent(), black_box(&CAR), &mut [0; FIGURES])
+        outside::train_enter(state, slices.lent(), black_box(&fields), &mut [0; FIGURES])
     };
     let reference =
         |train: &mut Train| operations::enter(train, &tables, black_box(&car)).map(drop);
@@ -73,20 +60,21 @@ fn compare_strike(name: &str, train: &Train, number: u32) {
 pub fn compare(
     name: &str,
     (state, proved): ([u32; TRAIN], impl Fn(&mut [u32; TRAIN]) -> u32),
-    (train, reference): (&Train, impl Fn(&mut Train) -> Result<(), reference::Refusal>),
+    (train, reference): (&Train, impl Fn(&mut Train) -> Result<(), Refusal>),
 ) {
     let (mut next, mut expected) = (state, train.clone());
     let answer = proved(&mut next);
-    let number = reference(&mut expected).map_or_else(|refusal| refusal.number(), |()| 0);
+    let number = calls::number(&reference(&mut expected));
     assert_eq!((answer, next), (number, state_of(&expected)), "{name}: answers differ");
 
-    let [proved, reference] = timing::least([
+    calls::line(
+        name,
+        answer,
         &mut || {
             black_box(proved(black_box(&mut black_box(&state).clone())));
         },
         &mut || {
             black_box(reference(black_box(&mut black_box(train).clone()))).ok();
         },
-    ]);
-    println!("{name:42} {answer:>6} {proved:>8.0} {reference:>9.0} {:>20.2}", proved / reference);
+    );
 }

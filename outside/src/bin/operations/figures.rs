@@ -50,9 +50,34 @@ pub fn tape_allowance(times: u64) -> Tally {
     tally
 }
 
-pub fn expansion_of() -> Tally {
+/// Densities in 0.1 kg/m³ around the ends of 16 bits, of 31 and of 32, and such as are in range where bits or
+/// a sign are cut off.
+fn ends_of_densities() -> impl Iterator<Item = u32> {
+    let (of_16, of_31): (u32, u32) = (1 << 16, 1 << 31);
+    let cut_off = (14..32).flat_map(|bits| {
+        [0, 8_999, 9_000, 9_500, 9_600, 9_900, 9_901].map(|density| (1 << bits) + density)
+    });
+    (of_16 - 20_000..=of_16 + 20_000)
+        .chain(of_31 - 20_000..=of_31 + 20_000)
+        .chain(u32::MAX - 20_000..=u32::MAX)
+        .chain(cut_off)
+}
+
+/// A density out of all numbers of 32, 24 or 16 bits, one in two with one near the list in its low 16 bits.
+fn draw_density(random: &mut Random) -> u32 {
+    let number = (random.next() >> random.pick(&[32, 40, 48])) as u32;
+    if random.one_in(2) {
+        number & !0xffff | random.between(8_900, 10_000)
+    } else {
+        number
+    }
+}
+
+pub fn expansion_of(times: u64) -> Tally {
     let mut tally = Tally::new("expansion_of");
-    for density in ends_and(0..=20_000) {
+    let mut random = Random::new(16);
+    let by_lot = (0..times).map(|_| draw_density(&mut random));
+    for density in ends_and(0..=20_000).chain(ends_of_densities()).chain(by_lot) {
         let mut expansion = LENT;
         let number = outside::expansion_of(density, &mut expansion);
         let expected = operations::coefficient(density).map(|figure| figure as u32);

@@ -40,7 +40,7 @@ fn main() -> ExitCode {
         stick::stick_against_tape(times).print(),
         tables::check_tables(times).print(),
         tables::checked_volume(times).print(),
-        figures::expansion_of().print(),
+        figures::expansion_of(times).print(),
         figures::factor_of().print(),
         figures::density_at_20().print(),
         figures::density_at_20_of_grade().print(),
