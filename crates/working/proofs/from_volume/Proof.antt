@@ -15,7 +15,7 @@ use Rattle.car.specs.Measured.{figuresFrom}
 use Rattle.working.proofs.from_volume.Statement.{statement}
 use Rattle.working.proofs.from_volume.Tie as tie
 
--- 18 to 20, 21, and both
+-- 18 to 20, and 21
 abbrev ranges : Measured → List Test
 ranges m = rangeTests (m .grade) (m .temperature) (m .density .0) (m .water) (m .impurities)
 
