@@ -5,7 +5,7 @@ ghost use Rattle.base.specs.Limits.{mostCars};
 ghost use Rattle.base.specs.Answer.{firstNumber};
 ghost use Rattle.table.specs.Layout.{tablesOf};
 ghost use Rattle.table.specs.Inner.{Good};
-ghost use Rattle.thermal_stored.specs.Stored.{LookedUp};
+ghost use Rattle.thermal_stored.specs.Inner.{LookedUp};
 ghost use Rattle.car.specs.Car.{dipped, carTold};
 ghost use Rattle.summing.specs.Inner.{Graded};
 ghost use Rattle.consist.specs.Train.{enterAnswer, enterTrain};

@@ -4,7 +4,7 @@ ghost use Prim.Native.Nat.{_≤_};
 ghost use Rattle.base.specs.Limits.{mostCars};
 ghost use Rattle.table.specs.Layout.{tablesOf};
 ghost use Rattle.table.specs.Inner.{Good};
-ghost use Rattle.thermal_stored.specs.Stored.{LookedUp};
+ghost use Rattle.thermal_stored.specs.Inner.{LookedUp};
 ghost use Rattle.car.specs.declared.ProbeCar.{ProbeCar};
 ghost use Rattle.car.specs.Car.{probed, carTold};
 ghost use Rattle.car.specs.Inner.{Stands};

@@ -2,7 +2,7 @@
 ghost use mathlib.Core.Path.{_≡_};
 ghost use Prim.Native.Nat.{_≤_};
 ghost use Rattle.table.specs.Layout.{tablesOf};
-ghost use Rattle.thermal_stored.specs.Stored.{LookedUp};
+ghost use Rattle.thermal_stored.specs.Inner.{LookedUp};
 ghost use Rattle.car.specs.Measured.{v0};
 ghost use Rattle.car.specs.Car.{measured, Intake, dipped};
 ghost use Rattle.car.specs.Inner.{Passed};

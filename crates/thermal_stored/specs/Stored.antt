@@ -14,7 +14,3 @@ fieldCount = 901
 pub record Stored (bs : List ℕ) : Type 0 where
   pub count : length bs ≡ fieldCount
   pub each : (r : ℕ) → DensityInRange r → getD bs (r - lowestDensity) 0 ≡ expansion r
-
--- b is what is looked up for the density r: its B, where 19 does not turn r away
-abbrev pub LookedUp : ℕ → ℕ → Type 0
-LookedUp r b = DensityInRange r → b ≡ expansion r

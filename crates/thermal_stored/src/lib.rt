@@ -1,5 +1,6 @@
 // B of step 4 looked up, with no division: 901 stored numbers, one for each density field from 9,000 to 9,900. Request (j) of document 02.
-ghost use Rattle.thermal_stored.specs.Stored.{Stored, LookedUp};
+ghost use Rattle.thermal_stored.specs.Stored.{Stored};
+ghost use Rattle.thermal_stored.specs.Inner.{LookedUp};
 use heating::Density15;
 use heating::HIGHEST_DENSITY;
 use heating::LOWEST_DENSITY;

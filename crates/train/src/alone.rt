@@ -5,7 +5,7 @@ ghost use Rattle.base.specs.Answer.{firstNumber};
 ghost use Rattle.table.specs.Table.{tablesTests};
 ghost use Rattle.table.specs.Layout.{tablesOf};
 ghost use Rattle.table.specs.TablesCard.{TablesRight};
-ghost use Rattle.thermal_stored.specs.Stored.{LookedUp};
+ghost use Rattle.thermal_stored.specs.Inner.{LookedUp};
 ghost use Rattle.car.specs.Car.{numberTests, measured, dipped, aloneAnswer, carTold};
 ghost use Rattle.consist.specs.Demand3.{Close, InOrder};
 ghost use Rattle.car.specs.Card.{AllRight};

@@ -1,7 +1,7 @@
 // The car of a portable probe: by itself, and entered in the running train.
 ghost use mathlib.Core.Path.{_≡_};
 ghost use Rattle.table.specs.Layout.{tablesOf};
-ghost use Rattle.thermal_stored.specs.Stored.{LookedUp};
+ghost use Rattle.thermal_stored.specs.Inner.{LookedUp};
 ghost use Rattle.car.specs.declared.ProbeCar.{ProbeCar};
 ghost use Rattle.car.specs.Car.{probedMeasured, probed, aloneAnswer, carTold};
 ghost use Rattle.car.specs.Inner.{Stands};

@@ -7,7 +7,7 @@ ghost use Rattle.base.specs.Answer.{accepts, first, firstNumber, answer};
 ghost use Rattle.base.specs.Limits.{highestLevel, inTenths};
 ghost use Rattle.table.specs.Layout.{tablesOf};
 ghost use Rattle.table.specs.Inner.{Good};
-ghost use Rattle.thermal_stored.specs.Stored.{LookedUp};
+ghost use Rattle.thermal_stored.specs.Inner.{LookedUp};
 ghost use Rattle.grading.specs.Grades.{gradeBad, oilTests};
 ghost use Rattle.kilograms.specs.Distance.{greatestVolume};
 ghost use Rattle.car.specs.Measured.{earlyTests, lateTests, figuresFrom, sixFigures};
