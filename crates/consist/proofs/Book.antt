@@ -47,7 +47,7 @@ run (i ∷ items) t ks m =
       right = right-step t ks m i items (answersFrom (trainWith t i) items) (r .right);
     }
 
-start : Matches emptyTrain []
+pub start : Matches emptyTrain []
 start = record {
   sixty = record { numbers = refl; grades = refl; grosses = refl; nets = refl };
   held = refl;

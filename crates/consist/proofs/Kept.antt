@@ -118,7 +118,7 @@ module _ (t : Train) (ks : List Kept) (m : Matches t ks) where
   row : heldBy t ≡ map numberFor ks
   row = numbers-held t (m .sixty) (omega (arith, m .held, m .room)) ∙ ap (map heldNumber) (m .cars) ∙ numbers-are ks
 
-  entries : heldBy t ≡ map numberIn (bookOf ks)
+  pub entries : heldBy t ≡ map numberIn (bookOf ks)
   entries = row ∙ sym (map-map numberIn entryFor ks)
 
   made : t .sums ≡ sumsOf (shownIn (carsOf t))

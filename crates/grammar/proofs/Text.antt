@@ -62,16 +62,19 @@ history-length [] e = refl
 history-length (enters car ∷ history) (e, es) = rw (length-append, length-lineOf (cLine car) (car-places car e), history-length history es) (omega arith)
 history-length (strikes number ∷ history) (e, es) = rw (length-append, length-lineOf (kLine number) refl, history-length history es) (omega arith)
 
-pub text-short : (ts : List Table) (history : List TrainLine) → WholeSheet ts history → length (sheetText ts history) ≤ longest
+-- by how many tables, C lines and K lines there are
+pub text-within : (ts : List Table) (history : List TrainLine) → first (tablesTestsAfter [] ts) ≡ accepts → EachLine history
+    → length (sheetText ts history) ≤ (widthOf T + mostRows * widthOf R) * length ts + widthOf C * carsIn history + widthOf K * strikesIn history + widthOf E
 unfolding textOf
-text-short ts history w =
+text-within ts history good each =
     let end : length (textOf (eLine (carsIn history) ∷ [])) ≡ widthOf E = ap length (append-nil (lineOf (eLine (carsIn history)))) ∙ length-lineOf (eLine (carsIn history)) refl in
     omega (
       arith,
       text-length (tablesLines ts) (map asLine history ++ (eLine (carsIn history) ∷ [])),
       text-length (map asLine history) (eLine (carsIn history) ∷ []),
-      tables-length [] ts (w .accepted),
-      history-length history (w .each),
-      w .few-cars,
-      w .few-strikes,
+      tables-length [] ts good,
+      history-length history each,
     )
+
+pub text-short : (ts : List Table) (history : List TrainLine) → WholeSheet ts history → length (sheetText ts history) ≤ longest
+text-short ts history w = omega (arith, text-within ts history (w .accepted) (w .each), w .four, w .few-cars, w .few-strikes)

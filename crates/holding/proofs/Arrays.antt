@@ -9,16 +9,16 @@ use lib.ListN.{length, getD, set, take, drop, length-append}
 use lib.Seq.{append-snoc, set-split, drop-drop, drop-cons, getD-set-same, getD-set-other, take-at, drop-at, take-add, take-take, take-append-le, take-all, length-take-le, paste}
 use Rattle.base.specs.Buffer.{put}
 use Rattle.base.proofs.Buffer.{length-put}
-use Rattle.base.specs.Limits.{mostRows}
+use Rattle.base.specs.Limits.{mostRows, mostCarLines, mostStrikes}
 use Rattle.reading.specs.Letter.{mostFields}
 use Rattle.table.specs.Table.{Row, rowOf, Table}
 use Rattle.table.specs.Layout.{rowsFrom, tableAt, tablesFrom}
 use Rattle.table.proofs.Arrays.{rows-last}
-use Rattle.grammar.specs.Grammar.{TrainLine, kinds, lastRows}
+use Rattle.grammar.specs.Grammar.{TrainLine, carsIn, strikesIn, kinds, lastRows}
 use Rattle.grammar.specs.Sheet.{dueBy, dueOf, withRow}
-use Rattle.grammar.proofs.Rules.{with-row-last, last-rows-last}
+use Rattle.grammar.proofs.Rules.{lines-all, with-row-last, last-rows-last}
 use Rattle.holding.specs.declared.reader.Reader.{Reader}
-use Rattle.holding.specs.Layout.{linePlaces, lineIn, lineNumbers, historyFrom}
+use Rattle.holding.specs.Layout.{linePlaces, lineIn, lineNumbers, historyFrom, historyOf}
 use Rattle.holding.specs.Inner.{stateIn, Stored}
 
 -- Rows.
@@ -132,6 +132,10 @@ module _ (types rows l c l′ c′ : List ℕ) (n k i a b : ℕ) (count : n ≡ 
 pub length-history : (f : List ℕ) (i n : ℕ) → length (historyFrom f i n) ≡ n
 length-history f i zero = refl
 length-history f i (suc n) = ap suc (length-history f (i + 1) n)
+
+-- where neither C nor K lines are too many, there are not more than 180
+pub few-lines : (f : List ℕ) (n : ℕ) → carsIn (historyOf f n) ≤ mostCarLines → strikesIn (historyOf f n) ≤ mostStrikes → n ≤ mostCarLines + mostStrikes
+few-lines f n h k = omega (arith, lines-all (historyOf f n), length-history f 0 n)
 
 -- the letters due, by the numbers that the code holds
 pub due-held : (h : Reader) (l c f : List ℕ) → dueBy (h .owed) (h .directory .count) (h .cars + h .struck) ≡ dueOf (stateIn h l c f)

@@ -20,7 +20,6 @@ use Rattle.consist.specs.Inner.{Reached}
 use Rattle.consist.proofs.Book.{reached-first, reached-next, reached-sound, reached-four}
 use Rattle.holding.specs.Layout.{lineIn, lineNumbers, historyFrom, historyOf}
 use Rattle.grammar.specs.Grammar.{TrainLine, carsIn, strikesIn, EachLine}
-use Rattle.grammar.proofs.Rules.{lines-all}
 use Rattle.holding.proofs.Arrays.{length-history}
 use Rattle.grammar.specs.Text.{textOf}
 use Rattle.answers.specs.Listing.{itemsOf, itemLine, totalsLines, linesFrom, leastBuffer}
@@ -41,10 +40,6 @@ sheetText ts history = textOf (sheetLines ts history)
 pub sheet-fits : (ts : List Table) → tablesVerdict ts ≡ accepts → (fields : List ℕ) (lines : ℕ) → carsIn (historyOf fields lines) ≤ mostCarLines → strikesIn (historyOf fields lines) ≤ mostStrikes → EachLine (historyOf fields lines)
     → length (sheetText ts (historyOf fields lines)) ≤ leastBuffer
 sheet-fits ts good fields lines h k e = omega (arith, text-most ts good emptyTrain reached-first (historyOf fields lines) e)
-
--- and there are not more than 180
-pub few-lines : (fields : List ℕ) (lines : ℕ) → carsIn (historyOf fields lines) ≤ mostCarLines → strikesIn (historyOf fields lines) ≤ mostStrikes → lines ≤ mostCarLines + mostStrikes
-few-lines fields lines h k = omega (arith, lines-all (historyOf fields lines), length-history fields 0 lines)
 
 -- the lines from line i on
 abbrev left : List ℕ → ℕ → ℕ → List TrainLine

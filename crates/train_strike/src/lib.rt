@@ -22,7 +22,7 @@ pub struct Removed {
 }
 
 // The first place of a number among the first n; n where it is not among them.
-fn place_of(numbers: &[u32; MOST_CARS], n: usize, number: u32) -> usize
+pub fn place_of(numbers: &[u32; MOST_CARS], n: usize, number: u32) -> usize
     requires { ⌜ (n ≤ mostCars) × (length (now numbers) ≡ mostCars) ⌝ }
     ensures { λ r. ⌜ r ≡ position number (take n (now (numbers .entry))) ⌝ }
 {
@@ -37,7 +37,7 @@ fn place_of(numbers: &[u32; MOST_CARS], n: usize, number: u32) -> usize
 }
 
 // Takes out place k: later places move up by one, and the last becomes free.
-fn close_up(list: &mut [u32; MOST_CARS], k: usize)
+pub fn close_up(list: &mut [u32; MOST_CARS], k: usize)
     requires { ⌜ (k < mostCars) × (length (now list) ≡ mostCars) ⌝ }
     ensures { λ _. ⌜ now (list .exit) ≡ closed k (now (list .entry)) ⌝ }
 {

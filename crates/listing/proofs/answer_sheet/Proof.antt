@@ -5,7 +5,7 @@ use borrow.Author.Needs.{needs}
 use denote.Ref.{now}
 use Rattle.base.specs.Limits.{mostCarLines, mostStrikes}
 use Rattle.answers.proofs.Reconciled.{too-short, answered}
-use Rattle.listing.proofs.Run.{few-lines}
+use Rattle.holding.proofs.Arrays.{few-lines}
 use Rattle.listing.proofs.Read.{refused-read, whole-read, refused-proper, whole-proper}
 use Rattle.listing.proofs.answer_sheet.Statement.{statement}
 use Rattle.listing.proofs.answer_sheet.Tie as tie
