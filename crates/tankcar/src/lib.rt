@@ -82,3 +82,8 @@ pub use train::work_out_probe;
 pub use answers::Reply;
 pub use listing::LEAST_BUFFER;
 pub use listing::answer_sheet;
+
+// Two sheets merged into one; LEAST_MERGE_BUFFER bytes are the least buffer.
+pub use merge::LEAST_MERGE_BUFFER;
+pub use merge::merge_sheets;
+pub use merge_spec::MergeReply;

@@ -1,0 +1,5 @@
+pub mod Standing
+pub mod Fitting
+pub mod Whole
+pub mod Clashes
+pub mod Answers

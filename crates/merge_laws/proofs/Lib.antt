@@ -1,0 +1,11 @@
+pub mod Kept
+pub mod Holding
+pub mod Sums
+pub mod Counting
+pub mod Clear
+pub mod Answers
+pub mod Swap
+pub mod Again
+pub mod Made
+pub mod Laws
+pub mod AgainstPair

@@ -1,0 +1,2 @@
+pub mod CarTurns
+pub mod TableTurns
