@@ -111,6 +111,14 @@ pub const MARKS: &[(&str, &str, &str, &str)] = &[
         "",
         ".inspect(|(grade, _)| crate::hooks::place(crate::hooks::GRADE, *grade))",
     ),
+    ("merge", "«let first = »", "crate::hooks::begin_half(crate::hooks::FIRST_HALF);", ""),
+    ("merge", "«let second = »", "crate::hooks::begin_half(crate::hooks::SECOND_HALF);", ""),
+    (
+        "merge",
+        "«self.length += line::write(&mut self.out[self.length..], letter, numbers);»",
+        "crate::hooks::begin_answer(letter);",
+        "",
+    ),
     ("sheet", "«let [car_type, rows] = »", "let mut late: Option<Rejection> = None;", ""),
     (
         "sheet",
@@ -222,3 +230,4 @@ pub const MARKS: &[(&str, &str, &str, &str)] = &[
 ];
 
 include!("wrong_ways.rs");
+include!("wrong_merges.rs");

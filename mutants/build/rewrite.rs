@@ -445,7 +445,8 @@ impl<'a> Module<'a> {
     /// Hand-made edits: the text between the marks is done in other ways.
     fn edit(&mut self) {
         let name = self.name;
-        for edit in edits::EDITS.iter().filter(|edit| edit.module == name) {
+        let all = edits::EDITS.iter().chain(edits::MERGES);
+        for edit in all.filter(|edit| edit.module == name) {
             let (left, right) = self.find(edit.old);
             let names: Vec<String> = edit.new.iter().map(|(name, _)| name.to_string()).collect();
             let id = self.add(left, "edit", &names, &[]);

@@ -67,13 +67,15 @@ pub const PROBE: usize = 25;
 pub const BY_PROBE: usize = 26;
 /// Whether B of a density is asked by itself: 1 where it is.
 pub const BY_ITSELF: usize = 30;
+/// Which of two sheets to be merged is at hand, [`FIRST_HALF`] or [`SECOND_HALF`]; else 0.
+pub const HALF: usize = 31;
 const SKIPPED: usize = 11;
 const TYPES: usize = 12;
 const ROW_LEVEL: usize = 16;
 const ROW_CAPACITY: usize = 17;
 const TABLES: usize = 18;
 const FLOATS: usize = 27;
-const KEYS: usize = 31;
+const KEYS: usize = 32;
 
 /// Where a wrong way is taken: where the key's number lies between two bounds.
 #[derive(Clone, Copy, Debug, PartialEq, Eq)]
@@ -90,6 +92,10 @@ pub const LABORATORY: u32 = 100;
 /// [`HANDED_IN`].
 pub const TO_ENTER: u32 = 1;
 pub const TO_STRIKE: u32 = 2;
+
+/// The first and the second of two sheets to be merged: among the numbers of [`HALF`].
+pub const FIRST_HALF: u32 = 1;
+pub const SECOND_HALF: u32 = 2;
 
 /// What a number of a probe is: among the numbers of [`READING`].
 pub const LEVEL: u32 = 1;
@@ -243,6 +249,12 @@ pub fn place(key: usize, number: u32) {
 
 fn at(key: usize) -> u32 {
     PLACES[key].load(Relaxed)
+}
+
+/// One of two sheets to be merged is looked at, from its start.
+pub fn begin_half(half: u32) {
+    [LINE, FIELD, TABLE, ROW, CAR, STRIKE, PLACE, TABLES].iter().for_each(|&key| place(key, 0));
+    place(HALF, half);
 }
 
 /// A line is looked at.

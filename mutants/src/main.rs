@@ -6,6 +6,7 @@ mod expansion;
 mod grid;
 mod hooks;
 mod laboratory;
+mod merge;
 mod mutants;
 mod permitted;
 mod probe;
@@ -22,6 +23,7 @@ mod turned {
 }
 mod wrong;
 mod wrong_expansion;
+mod wrong_merge;
 mod wrong_probe;
 
 use std::process::ExitCode;
@@ -113,8 +115,23 @@ fn try_generated(
         let missed = missed.iter().chain(left.iter().filter(|mutant| !is_listed(mutant)));
         missed.filter(|_| options.generator > 1).for_each(|mutant| println!("missed: {mutant}"));
     }
+    try_pairs(options, others, caught);
     let (left, by_others) = measure(&left, others);
     report(left, [by_sheets, by_others].concat())
+}
+
+/// Tries the generated pairs on the wrong merges that the kit caught.
+fn try_pairs(options: &Options, generated: &[Trial], caught: &[(Mutant, &str)]) {
+    if options.generator == 0 {
+        return;
+    }
+    let pairs = &generated[generated.len() - options.sheets as usize..];
+    let merges: Vec<Mutant> =
+        caught.iter().map(|(mutant, _)| *mutant).filter(|mutant| mutant.is_of("merge")).collect();
+    let (missed, caught) = measure(&merges, pairs);
+    let (all, count) = (merges.len(), caught.len());
+    println!("of {all} wrong merges, caught by {} generated pairs: {count}", pairs.len());
+    missed.iter().for_each(|mutant| println!("missed by pairs: {mutant}"));
 }
 
 /// Prints what the kit leaves: wrong programs that the generator alone tells apart, with what does so, and
@@ -159,10 +176,11 @@ fn kit(first: usize) -> Kit {
     let trains = vectors::all::<vectors::train::Vector>();
     let probes = probe::of_vectors();
     let densities = expansion::of_vectors();
+    let pairs = merge::of_vectors();
     let sheets = cases.len().min(first);
     let vectors = [cars.len(), reports.len(), levels.len(), checks.len(), trains.len()];
     let vectors = vectors.iter().sum::<usize>() + probes.len();
-    let vectors = vectors + densities.iter().map(Densities::count).sum::<usize>();
+    let vectors = vectors + densities.iter().map(Densities::count).sum::<usize>() + pairs.len();
     let cases = cases.into_iter().take(first);
     let trials = cases
         .map(|case| Trial::new(case.name.to_string(), case.sheet))
@@ -173,6 +191,7 @@ fn kit(first: usize) -> Kit {
         .chain(trains.into_iter().map(Trial::of_train))
         .chain(probes.into_iter().map(Trial::of_probe))
         .chain(densities.into_iter().map(Trial::of_densities))
+        .chain(pairs.into_iter().map(Trial::of_pair))
         .collect();
     Kit { trials, sheets, vectors }
 }
@@ -188,6 +207,7 @@ fn generated(sheets: u64) -> Vec<Trial> {
         .chain(stick::drawn(sheets).map(Trial::of_check))
         .chain(train::drawn(sheets).map(Trial::of_train))
         .chain(probe_lot::drawn(sheets).map(Trial::of_probe))
+        .chain(merge::drawn(sheets).map(Trial::of_pair))
         .collect()
 }
 

@@ -28,6 +28,8 @@ fn keys(point: &Point) -> &'static [usize] {
         ("line", _) if point.choices[0].starts_with("each field") => &[hooks::LINE, hooks::FIELD],
         ("field" | "line", _) => &[hooks::LINE, hooks::ANSWER],
         ("listing", "write") => &[hooks::ANSWER],
+        ("merge", "write") if point.code.starts_with("self.length") => &[hooks::ANSWER],
+        ("merge", "read" | "held") => &[hooks::HALF],
         ("sheet", _) => &[hooks::LINE],
         ("table", "add") => &[hooks::TABLE, hooks::ROW],
         ("table", "find" | "new") => &[],
@@ -97,7 +99,8 @@ fn ranges(key: usize) -> Vec<(u32, u32)> {
         |numbers: std::ops::RangeInclusive<u32>| -> Vec<_> { numbers.map(|n| (n, n)).collect() };
     match key {
         hooks::LINE => hooks::LETTERS.map(|letter| (letter.into(), letter.into())).to_vec(),
-        hooks::ANSWER => b"AXKSZG".map(|letter| (letter.into(), letter.into())).to_vec(),
+        hooks::ANSWER => b"AXKSZGTRCE".map(|letter| (letter.into(), letter.into())).to_vec(),
+        hooks::HALF => each(hooks::FIRST_HALF..=hooks::SECOND_HALF),
         hooks::FIELD => fields(),
         hooks::TABLE | hooks::GRADE => each(1..=4),
         hooks::ROW => vec![(1, 1), (2, 2), (3, 3), (4, 400), (256, 400), (400, 400)],
@@ -189,6 +192,13 @@ fn exchanged(order: usize) -> Vec<Mutant> {
         .collect()
 }
 
+impl Mutant {
+    /// Whether it goes wrong in a module.
+    pub fn is_of(&self, module: &str) -> bool {
+        matches!(self, Self::Point(point, ..) if POINTS[*point].module == module)
+    }
+}
+
 impl fmt::Display for Mutant {
     fn fmt(&self, to: &mut fmt::Formatter) -> fmt::Result {
         match *self {
@@ -242,7 +252,12 @@ impl fmt::Display for Context {
         let Self { key, low, high } = *self;
         match key {
             hooks::ALWAYS => write!(to, "{}", names[0]),
+            hooks::ANSWER if b"TRCE".contains(&(low as u8)) => {
+                write!(to, "merged line {}", low as u8 as char)
+            }
             hooks::LINE | hooks::ANSWER => write!(to, "line {}", low as u8 as char),
+            hooks::HALF if low == hooks::FIRST_HALF => write!(to, "first sheet"),
+            hooks::HALF => write!(to, "second sheet"),
             hooks::FIELD => write!(to, "field {} of {}", low % 100, (low / 100) as u8 as char),
             hooks::AT if low == hooks::LABORATORY => write!(to, "at the laboratory"),
             hooks::TAPE => write!(to, "tape readings {low}"),

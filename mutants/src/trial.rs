@@ -1,6 +1,6 @@
 //! Trying a wrong program on sheets, on cars with given errors, on laboratories' reports, on levels, on
-//! sticks set against the tape, on trains that are handed in, on a probe's numbers and cars and on densities
-//! whose B is asked.
+//! sticks set against the tape, on trains that are handed in, on a probe's numbers and cars, on densities
+//! whose B is asked and on pairs of sheets to be merged.
 
 use std::panic::{self, AssertUnwindSafe};
 
@@ -11,6 +11,7 @@ use reference::conformance::vectors::train::Vector as HandedIn;
 use crate::expansion::Densities;
 use crate::hooks;
 use crate::laboratory::Reports;
+use crate::merge::Asked as Pair;
 use crate::mutants::{contexts_of, Mutant};
 use crate::probe::Asked;
 use crate::{permitted, stick, tape, train, turned, POINTS};
@@ -29,6 +30,8 @@ enum Question {
     Probe(Asked),
     /// B of densities.
     Expansion(Densities),
+    /// Two sheets, and a buffer for the merged one.
+    Merge(Pair),
 }
 
 impl Question {
@@ -43,6 +46,7 @@ impl Question {
             Self::Train(handed_in) => train::right(handed_in),
             Self::Probe(asked) => asked.right(),
             Self::Expansion(densities) => densities.right(),
+            Self::Merge(pair) => pair.right(),
         }
     }
 
@@ -57,6 +61,7 @@ impl Question {
             Self::Train(handed_in) => train::turned(handed_in),
             Self::Probe(asked) => asked.turned(),
             Self::Expansion(densities) => densities.turned(),
+            Self::Merge(pair) => pair.turned(),
         }
     }
 }
@@ -113,6 +118,11 @@ impl Trial {
         Self::of(densities.name(), Question::Expansion(densities))
     }
 
+    /// Two sheets, and what comes of merging them.
+    pub fn of_pair(pair: Pair) -> Self {
+        Self::of(pair.name.clone(), Question::Merge(pair))
+    }
+
     /// # Panics
     ///
     /// If the rewritten program, with nothing gone wrong, does not give the reference's answer.
@@ -125,9 +135,13 @@ impl Trial {
     }
 
     /// Whether the trial comes to the place where the wrong program goes wrong. Lists of constants
-    /// are made once, so that no trial is seen to meet them.
+    /// are made once, so that no trial is seen to meet them. A merge shows no figures, so that only what
+    /// reads and holds lines is tried on it.
     pub fn meets(&self, mutant: Mutant) -> bool {
+        let is_merge = matches!(self.question, Question::Merge(_));
         match mutant {
+            Mutant::Point(point, ..) if is_merge && !is_of_lines(POINTS[point].module) => false,
+            Mutant::Order(..) | Mutant::Stored(..) if is_merge => false,
             Mutant::Point(point, _, place) => {
                 POINTS[point].function.is_empty() || self.met[point] >> place & 1 == 1
             }
@@ -153,6 +167,11 @@ impl Trial {
         let answer = panic::catch_unwind(AssertUnwindSafe(|| self.question.turned()));
         answer.map_or(true, |answer| answer != self.answer)
     }
+}
+
+/// Whether a module reads, holds or writes the lines of a sheet.
+fn is_of_lines(module: &str) -> bool {
+    matches!(module, "merge" | "sheet" | "line" | "field" | "table" | "train")
 }
 
 /// The turn of the first trial that catches the wrong program, tried in an order of their places.

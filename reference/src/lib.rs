@@ -1,8 +1,8 @@
 //! The rules of the fuel oil sheet: from the bytes of a sheet to the bytes of its listing.
 //!
-//! [`answer_sheet`] is the whole of it. The modules below it hold one idea each and follow the
-//! order of the rules; [`sheets`] and [`conformance`] make sheets to try programs
-//! on.
+//! [`answer_sheet`] is the whole of it, and [`merge::merge`] makes one sheet of two. The modules below
+//! them hold one idea each and follow the order of the rules; [`sheets`] and [`conformance`] make
+//! sheets to try programs on.
 
 pub mod car;
 pub mod conformance;
@@ -12,6 +12,7 @@ pub mod level;
 pub mod line;
 pub mod listing;
 pub mod mass;
+pub mod merge;
 pub mod operations;
 pub mod permitted;
 pub mod probe;

@@ -1,11 +1,12 @@
-//! Why a sheet or a car is turned away, with the numbers that the listing shows.
+//! Why a sheet, a car or a merge is turned away, with the numbers that the listing shows.
 
 /// A refusal, numbered as on the rack card. They are tested by rising number, but 23 directly after
-/// 15, 30 directly after 9, and 31 and 32 before all others of a car.
+/// 15, 30 directly after 9, and 31 and 32 before all others of a car. 33 to 35 belong to two sheets that
+/// are to be merged.
 #[derive(Clone, Copy, Debug, PartialEq, Eq)]
 #[repr(u32)]
 pub enum Refusal {
-    /// The answer buffer is too short for every listing.
+    /// The answer buffer is too short for every listing, or the buffer of a merge for every merged sheet.
     AnswerBuffer = 1,
     /// The sheet is too long.
     SheetLength = 2,
@@ -68,6 +69,13 @@ pub enum Refusal {
     ProbeNumber = 31,
     /// The tenths of a probe's number are more than eight digits hold.
     ProbeTenths = 32,
+    /// Sheets to be merged have different rows for a type, or a held car whose type is not on its own sheet
+    /// finds it on the other.
+    MergedTables = 33,
+    /// Sheets to be merged both hold a car number.
+    HeldTwice = 34,
+    /// More types or more cars remain than a merged sheet takes.
+    MergedSize = 35,
 }
 
 impl Refusal {

@@ -57,6 +57,11 @@ impl Tables {
         self.tables
     }
 
+    /// The types of the tables, in their order.
+    pub fn types(&self) -> impl Iterator<Item = u32> + '_ {
+        self.heads[..self.tables].iter().map(|head| head.car_type)
+    }
+
     /// Begins a table, to which that many rows are to be added.
     pub fn begin(&mut self, car_type: u32, rows: u32) -> Result<(), Refusal> {
         let taken = self.find(car_type).is_some();
@@ -104,7 +109,12 @@ pub struct Table<'a> {
     rows: &'a [Row],
 }
 
-impl Table<'_> {
+impl<'a> Table<'a> {
+    /// The rows, from 0 and 0 on.
+    pub fn rows(&self) -> &'a [Row] {
+        self.rows
+    }
+
     /// The level of the last row, in mm.
     pub fn last_level(&self) -> u32 {
         self.rows.last().map_or(0, |row| row.level)

@@ -2,7 +2,7 @@
 
 use std::collections::HashSet;
 
-use reference::conformance::cases;
+use reference::conformance::{cases, merges};
 use reference::{listing, SHEET_BYTES};
 
 #[test]
@@ -89,12 +89,14 @@ fn names_tell_the_outcome() {
 }
 
 #[test]
-fn the_index_has_every_sheet_once() {
+fn the_index_has_every_sheet_and_every_pair_once() {
     let cases = cases();
-    let index = reference::conformance::index::of(&cases);
-    for case in &cases {
-        let row = format!("| `{}` | ", case.name);
-        assert_eq!(index.matches(&row).count(), 1, "{}", case.name);
+    let pairs = merges::pairs();
+    let index = reference::conformance::index::of(&cases, &pairs);
+    let names = cases.iter().map(|case| case.name);
+    for name in names.chain(pairs.iter().map(|pair| pair.name.as_str())) {
+        let row = format!("| `{name}` | ");
+        assert_eq!(index.matches(&row).count(), 1, "{name}");
     }
 }
 

@@ -5,7 +5,7 @@ use std::collections::HashSet;
 use std::fmt::Debug;
 
 use reference::conformance::vectors::{
-    all, expansion, expected, file, laboratory, permitted, probe, probe_car, probe_error,
+    all, expansion, expected, file, laboratory, merge, permitted, probe, probe_car, probe_error,
     probe_train, read, stick, tape, train, Written,
 };
 use reference::probe::Reading;
@@ -47,6 +47,7 @@ fn files() {
     hold::<probe_train::Vector>(300);
     hold::<probe_error::Vector>(150);
     hold::<expansion::Vector>(950);
+    hold::<merge::Vector>(400);
 }
 
 #[test]

@@ -1,9 +1,10 @@
 //! The index of the cases: the rule that each tries, where it shows, and what it tries.
 
+use super::merges::{Outcome, Pair};
 use super::Case;
 
 /// What each refusal says, in a few words.
-const REFUSALS: [&str; 31] = [
+const REFUSALS: [&str; 36] = [
     "",
     "the answer buffer is too short",
     "the sheet is too long",
@@ -35,6 +36,11 @@ const REFUSALS: [&str; 31] = [
     "the number of tape readings",
     "a tape reading or the stick level",
     "the train does not hold the number",
+    "a probe's number",
+    "the tenths of a probe's number",
+    "rows that differ, or a held car whose type only the other sheet has",
+    "a number held on both sheets",
+    "too many types or cars",
 ];
 
 /// Words of a name that tell the step, or the rule, that it tries.
@@ -69,8 +75,76 @@ const STEPS: [(&str, &str); 28] = [
     ("densest", "refusal 21"),
 ];
 
-/// The index as Markdown.
-pub fn of(cases: &[Case]) -> String {
+/// Words with which a pair's name begins, the rule that it tries, and what that is. A dash ends what is no
+/// word of the rest.
+const MERGES: [(&str, &str, &str); 14] = [
+    ("again-", "merged again", "A merged sheet merged again"),
+    ("cars", "cars rise", "The cars of the merged sheet"),
+    ("entered-again", "held cars", "A number struck and entered again stays by its later line"),
+    ("full-train-", "held cars", "Cars met while sixty are held vanish"),
+    ("longest", "the buffer", "The greatest length"),
+    ("numbers", "refusal 34", "Not 34"),
+    ("paper", "cars rise", "The sheet that the rules print"),
+    ("size-", "refusal 35", "Not 35"),
+    ("struck", "held cars", "Struck lines vanish"),
+    ("tables", "tables rise", "The tables of the merged sheet"),
+    ("turned-away", "held cars", "Lines turned away by 9 vanish"),
+    ("typed", "held cars", "Lines turned away by 11 vanish"),
+    ("unknown-type", "refusal 33", "Not 33, since the line vanishes"),
+    ("unnumbered", "held cars", "Lines turned away by 10 vanish"),
+];
+
+/// The index as Markdown: the sheets, then the pairs.
+pub fn of(cases: &[Case], pairs: &[Pair]) -> String {
+    sheets(cases) + &merges(pairs)
+}
+
+fn merges(pairs: &[Pair]) -> String {
+    let mut text = format!(
+        "\n## The {} pairs of sheets to be merged\n\n\
+         The rule is that of document 02 (k).\n\n\
+         | Pair | Rule | Comes to | What it tries |\n|---|---|---|---|\n",
+        pairs.len()
+    );
+    let mut sorted: Vec<&Pair> = pairs.iter().collect();
+    sorted.sort_by_key(|pair| &pair.name);
+    for pair in sorted {
+        let name = pair.name.trim_start_matches("merge-");
+        let (rule, what) = merge_rule(name);
+        let row = [format!("`{}`", pair.name), rule, comes_to(pair), what];
+        text.push_str(&format!("| {} |\n", row.join(" | ")));
+    }
+    text
+}
+
+/// The rule that a pair tries, and what that is in words.
+fn merge_rule(name: &str) -> (String, String) {
+    if name.starts_with("refusal-") || name.starts_with("order-") {
+        return (rule(name), words(name));
+    }
+    let known = MERGES.iter().find(|(begins, ..)| name.starts_with(begins));
+    let (begins, rule, what) = known.unwrap_or_else(|| panic!("no rule of {name}"));
+    let rest = if begins.ends_with('-') { &name[begins.len()..] } else { name };
+    (rule.to_string(), format!("{what}: {}.", rest.replace('-', " ")))
+}
+
+/// What a pair comes to: how large the merged sheet is, or which refusal is given.
+fn comes_to(pair: &Pair) -> String {
+    let count = |sheet: &[u8], letter: u8| {
+        sheet.split(|&byte| byte == b'\n').filter(|line| line.starts_with(&[letter])).count()
+    };
+    let merged: Outcome = pair.work_out();
+    match merged {
+        Ok(sheet) => {
+            let (tables, cars) = (count(&sheet, b'T'), count(&sheet, b'C'));
+            format!("types: {tables}, cars: {cars}, bytes: {}", sheet.len())
+        }
+        Err((number, 0)) => format!("refusal {number}"),
+        Err((number, line)) => format!("refusal {number}, line {line}"),
+    }
+}
+
+fn sheets(cases: &[Case]) -> String {
     let mut text = format!(
         "# Index of the {} sheets\n\n\
          Made by `make_conformance`. The rule is that of document 01, for totals by grade that of \

@@ -17,6 +17,7 @@ mod halves;
 pub mod index;
 mod levels;
 mod lines;
+pub mod merges;
 mod order;
 mod rack;
 mod repeats;

@@ -140,7 +140,7 @@ pub fn sixty_lines(figures: &str, totals: &str) -> String {
 }
 
 /// Four tables of 400 rows, 500 dm³ to every 9 mm.
-fn full_tables() -> String {
+pub fn full_tables() -> String {
     let rows: String = (0..400).map(|row| format!("R {} {}\n", 9 * row, 500 * row)).collect();
     (1..=4).map(|car_type| format!("T {car_type} 400\n{rows}")).collect()
 }

@@ -15,11 +15,11 @@ pub struct History {
     /// The numbers of all C lines.
     entered: Vec<u32>,
     /// The numbers that the train holds, of accepted cars and of refused ones.
-    held: Vec<u32>,
+    pub held: Vec<u32>,
     /// The numbers that were struck, also those that were entered again.
-    struck: Vec<u32>,
+    pub struck: Vec<u32>,
     /// The numbers of cars that met a train of sixty.
-    turned_away: Vec<u32>,
+    pub turned_away: Vec<u32>,
 }
 
 impl History {
@@ -43,7 +43,7 @@ impl History {
     }
 
     /// A car of any kind, which often takes the number of a struck one.
-    fn add_car(&mut self, random: &mut Random, tables: &[Table]) {
+    pub fn add_car(&mut self, random: &mut Random, tables: &[Table]) {
         let mut car = cars::draw(random, tables);
         if !self.struck.is_empty() && random.one_in(3) {
             car.number = random.pick(&self.struck);
@@ -89,11 +89,44 @@ impl History {
         number
     }
 
-    fn strike(&mut self, number: u32) {
+    pub fn strike(&mut self, number: u32) {
         if let Some(place) = self.held.iter().position(|&held| held == number) {
             self.held.remove(place);
             self.struck.push(number);
         }
         self.events.push(Event::Strike(number));
+    }
+
+    /// Gives a number's lines another number, which stands on none.
+    pub fn renumber(&mut self, old: u32, new: u32) {
+        for event in &mut self.events {
+            match event {
+                Event::Enter(car) if car.number == old => car.number = new,
+                Event::Strike(number) if *number == old => *number = new,
+                _ => {}
+            }
+        }
+        let lists = [&mut self.entered, &mut self.held, &mut self.struck, &mut self.turned_away];
+        for number in lists.into_iter().flatten().filter(|number| **number == old) {
+            *number = new;
+        }
+    }
+
+    /// Whether a line has the number.
+    pub fn names(&self, number: u32) -> bool {
+        self.events.iter().any(|event| match event {
+            Event::Enter(car) => car.number == number,
+            Event::Strike(struck) => *struck == number,
+        })
+    }
+
+    /// How many C lines there are.
+    pub fn cars(&self) -> usize {
+        self.entered.len()
+    }
+
+    /// How many K lines there are.
+    pub fn strikes(&self) -> usize {
+        self.events.len() - self.entered.len()
     }
 }

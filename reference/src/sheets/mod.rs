@@ -4,6 +4,7 @@ mod cars;
 mod damage;
 mod draft;
 mod history;
+mod pairs;
 pub(crate) mod random;
 mod readings;
 mod rules;
@@ -17,6 +18,7 @@ use crate::sheet::{Event, SHEET_BYTES};
 use crate::train::CARS;
 use draft::Draft;
 use history::History;
+pub use pairs::{full_pair, fullest_pair, pair};
 use random::Random;
 use tables::Table;
 

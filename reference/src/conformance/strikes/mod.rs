@@ -63,7 +63,7 @@ fn wrong(number: u32) -> Event {
 }
 
 /// Cars refused by 12 to 21 and 23, each with its refusal for a number.
-fn refused_cars() -> Vec<Car> {
+pub fn refused_cars() -> Vec<Car> {
     let apart = Car { number: 23, ..four(1500, 1504, 1502, 1600) };
     [repeats::refused(), vec![apart]].concat()
 }

@@ -6,6 +6,7 @@
 
 pub mod expansion;
 pub mod laboratory;
+pub mod merge;
 pub mod permitted;
 pub mod probe;
 pub mod probe_car;
