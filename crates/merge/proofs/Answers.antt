@@ -19,7 +19,7 @@ use Rattle.sheet.specs.Layout.{readIn}
 use Rattle.merge_spec.specs.declared.MergeReply.{MergeReply}
 use Rattle.merge_spec.specs.Merge.{Half, holds, halfOf, Merging, refused, mergingOf, leastMergeBuffer, Done, Merges}
 use Rattle.merge_spec.specs.Inner.{keptFrom, mergedOf, replyTo, writtenFor}
-use Rattle.merge_held.specs.Held.{mostLines}
+use Rattle.merge_held.specs.Inner.{mostLines}
 use Rattle.merge_laws.proofs.Kept.{held-on-sheet}
 use Rattle.merge_laws.proofs.Again.{in-room}
 use Rattle.merge_laws.proofs.Laws.{done-of}

@@ -7,9 +7,9 @@ use lib.ListN.{take}
 use Rattle.base.specs.Answer.{refuseIf, firstNumber}
 use Rattle.base.specs.Numbers.{any, member}
 use Rattle.merge_held.specs.declared.Held.{Held}
-use Rattle.merge_held.specs.Held.{carsAt}
+use Rattle.merge_held.specs.Inner.{carsAt}
 use Rattle.merge_spec.specs.Merge.{heldOnBoth}
-use Rattle.merge.specs.Entries.{HeldAt}
+use Rattle.merge.specs.Inner.{HeldAt}
 
 abbrev pub told : Bool → Bool → Bool → Bool → ℕ
 told a b c d = firstNumber (refuseIf 33 (a || b || c) ∷ refuseIf 34 d ∷ [])

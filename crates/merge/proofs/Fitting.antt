@@ -24,7 +24,7 @@ use Rattle.grammar.specs.Text.{textOf}
 use Rattle.grammar.specs.Grammar.{tLine, rLine, eLine, tableLines, tablesLines}
 use Rattle.grammar.proofs.Text.{text-append}
 use Rattle.merge_spec.proofs.Tables.{Good, apart}
-use Rattle.merge_lines.specs.Room.{Fits}
+use Rattle.merge_lines.specs.Inner.{Fits}
 
 two-small : (a b : ℕ) (ns : List ℕ) → a ≤ largest → b ≤ largest → smallTo (a ∷ b ∷ ns) 2 ≡ true
 unfolding smallTo

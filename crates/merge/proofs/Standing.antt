@@ -15,16 +15,15 @@ use Rattle.table.specs.Table.{Table}
 use Rattle.table.specs.declared.Directory.{Directory}
 use Rattle.table.specs.Layout.{tableAt, tablesFrom, tablesOf}
 use Rattle.merge_held.specs.declared.Held.{Held}
-use Rattle.merge_held.specs.Held.{mostLines, carsAt, HeldIn}
+use Rattle.merge_held.specs.Inner.{mostLines, carsAt, HeldIn}
 use Rattle.holding.specs.Layout.{historyOf}
-use Rattle.merge_order.specs.Entry.{halfSpan, span, keyOf, placeOf, entryOf, entriesOf, carIn}
+use Rattle.merge_order.specs.Inner.{halfSpan, span, keyOf, placeOf, entryOf, entriesOf, carIn}
 use Rattle.merge_spec.specs.Held.{numberOf}
 use Rattle.merge_spec.specs.Merge.{tableKind}
 use Rattle.merge_spec.specs.Inner.{insertedAll, joined, joinedTables, joinedCars, keptFrom}
 use Rattle.merge_spec.proofs.Order.{SameKey, each-all, map-all}
-use Rattle.merge_write.specs.Cars.{Stands, carPlace, carBy}
-use Rattle.merge_write.specs.Tables.{tablePlace}
-use Rattle.merge.specs.Entries.{carEntries, tableEntries}
+use Rattle.merge_write.specs.Inner.{Stands, carPlace, carBy, tablePlace}
+use Rattle.merge.specs.Inner.{carEntries, tableEntries}
 
 -- An entry gives its key and its place back.
 

@@ -23,18 +23,17 @@ use Rattle.grammar.specs.Text.{textOf}
 use Rattle.grammar.specs.Grammar.{TrainLine, enters, asLine, carsIn, cLine, eLine, tablesLines, sheetText, CarNumbers, WholeSheet}
 use Rattle.holding.specs.Layout.{historyOf}
 use Rattle.merge_held.specs.declared.Held.{Held}
-use Rattle.merge_held.specs.Held.{carsAt, HeldIn}
-use Rattle.merge_order.specs.Entry.{placeOf}
+use Rattle.merge_held.specs.Inner.{carsAt, HeldIn}
+use Rattle.merge_order.specs.Inner.{placeOf}
 use Rattle.merge_spec.specs.declared.MergeReply.{MergeReply}
 use Rattle.merge_spec.specs.Merge.{rowsDiffer, typeElsewhere, heldOnBoth, mergeTests, holds, leastMergeBuffer}
 use Rattle.merge_spec.specs.Inner.{Holds, joinedTables, joinedCars, keptFrom, Merged, refused, sheet, conflictTests, sizeTests, mergedBy, mergedOf, mergedText}
 use Rattle.merge_laws.proofs.Holding.{kept-known}
 use Rattle.merge_laws.proofs.Clear.{clear, joined-known, ordered-tables, ordered-cars, tables-length, cars-length}
 use Rattle.merge_laws.proofs.Made.{cars-alone, short-sheet}
-use Rattle.merge_lines.specs.Room.{Fits}
-use Rattle.merge_write.specs.Cars.{Stands, carBy}
-use Rattle.merge_write.specs.Tables.{tablesWith}
-use Rattle.merge.specs.Entries.{HeldAt, textFor, SheetReady}
+use Rattle.merge_lines.specs.Inner.{Fits}
+use Rattle.merge_write.specs.Inner.{Stands, carBy, tablesWith}
+use Rattle.merge.specs.Inner.{HeldAt, textFor, SheetReady}
 use Rattle.merge.proofs.Standing.{carsOrder, cars-stand, cars-places, tablesOrder, tables-stand, tables-places}
 use Rattle.merge.proofs.Fitting.{tables-fit, tables-low, parts-length}
 

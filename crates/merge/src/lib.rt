@@ -12,7 +12,7 @@ ghost use Rattle.merge_spec.specs.Merged.{MadeOf, MergeLaws};
 ghost use Rattle.merge_spec.specs.Examples.{MergeExamples};
 ghost use Rattle.merge_spec.specs.Inner.{keptFrom, mergedOf, replyTo, writtenFor};
 ghost use Rattle.merge_laws.specs.Pair.{PairExample};
-ghost use Rattle.merge_held.specs.Held.{mostLines};
+ghost use Rattle.merge_held.specs.Inner.{mostLines};
 use base::MOST_CARS;
 use base::MOST_ROWS;
 use base::MOST_TABLES;

@@ -8,7 +8,7 @@ ghost use Rattle.grammar.specs.Grammar.{WholeSheet};
 ghost use Rattle.holding.specs.Layout.{historyOf};
 ghost use Rattle.merge_spec.specs.Merge.{holds, leastMergeBuffer};
 ghost use Rattle.merge_spec.specs.Inner.{keptFrom, refused, mergedOf, replyTo, writtenFor};
-ghost use Rattle.merge_held.specs.Held.{mostLines};
+ghost use Rattle.merge_held.specs.Inner.{mostLines};
 use crate::BOTH_CARS;
 use crate::BOTH_TABLES;
 use crate::conflict;

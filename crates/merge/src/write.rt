@@ -2,7 +2,7 @@
 ghost use mathlib.Core.Path.{_≡_};
 ghost use lib.ListN.{length};
 ghost use Rattle.base.specs.Buffer.{put};
-ghost use Rattle.merge.specs.Entries.{textFor, SheetReady};
+ghost use Rattle.merge.specs.Inner.{textFor, SheetReady};
 use crate::BOTH_CARS;
 use crate::BOTH_TABLES;
 use holding::HISTORY_NUMBERS;

@@ -16,7 +16,7 @@ use Rattle.table.specs.Inner.{Good}
 use Rattle.table.proofs.Arrays.{types-known}
 use Rattle.merge_spec.specs.Held.{kindOf}
 use Rattle.merge_spec.specs.Merge.{typeElsewhere}
-use Rattle.merge_order.specs.Entry.{carIn}
+use Rattle.merge_order.specs.Inner.{carIn}
 use Rattle.merge_conflicts.specs.Inner.{onlyThere}
 use Rattle.merge_order.proofs.Rest.{rest, rest-all, rest-next, rest-none}
 

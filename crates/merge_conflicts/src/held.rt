@@ -9,7 +9,7 @@ ghost use Rattle.base.specs.Numbers.{any, member};
 ghost use Rattle.table.specs.Layout.{tablesOf};
 ghost use Rattle.table.specs.Inner.{Good};
 ghost use Rattle.merge_spec.specs.Merge.{typeElsewhere};
-ghost use Rattle.merge_order.specs.Entry.{carIn};
+ghost use Rattle.merge_order.specs.Inner.{carIn};
 ghost use Rattle.merge_conflicts.specs.Inner.{onlyThere};
 use base::MOST_CARS;
 use holding::HISTORY_NUMBERS;

@@ -19,8 +19,8 @@ use Rattle.grammar.specs.Grammar.{TrainLine, enters, strikes}
 use Rattle.holding.specs.Layout.{linePlaces, carMark, lineIn, lineNumbers, historyFrom, historyOf}
 use Rattle.merge_spec.specs.Held.{numberOf}
 use Rattle.merge_spec.specs.Inner.{turnedAway, carsWithout, keptBehind, keptFrom}
-use Rattle.merge_order.specs.Entry.{carIn}
-use Rattle.merge_held.specs.Held.{mostLines, Rows, oneMore, oneLess}
+use Rattle.merge_order.specs.Inner.{carIn}
+use Rattle.merge_held.specs.Inner.{mostLines, Rows, oneMore, oneLess}
 
 -- number j of line i
 module _ (fields : List ℕ) (i : ℕ) where

@@ -13,7 +13,7 @@ use Rattle.base.specs.Limits.{largest, mostCars}
 use Rattle.base.specs.Numbers.{outside, member}
 use Rattle.consist.specs.Train.{position, removeAt, closed}
 use Rattle.consist.proofs.Places.{closed-length}
-use Rattle.merge_held.specs.Held.{Rows, oneMore, oneLess}
+use Rattle.merge_held.specs.Inner.{Rows, oneMore, oneLess}
 
 -- One more.
 

@@ -4,7 +4,7 @@ ghost use mathlib.Core.Bool.{_||_};
 ghost use lib.ListN.{length, take};
 ghost use Rattle.base.specs.Limits.{largest};
 ghost use Rattle.base.specs.Numbers.{outside, member};
-ghost use Rattle.merge_held.specs.Held.{Rows, oneMore, oneLess};
+ghost use Rattle.merge_held.specs.Inner.{Rows, oneMore, oneLess};
 use base::LARGEST;
 use base::MOST_CARS;
 use train_strike::close_up;

@@ -2,7 +2,7 @@
 ghost use mathlib.Core.Path.{_≡_};
 ghost use Prim.Native.Nat.{_≤_};
 ghost use lib.ListN.{length};
-ghost use Rattle.merge_held.specs.Held.{mostLines, HeldIn};
+ghost use Rattle.merge_held.specs.Inner.{mostLines, HeldIn};
 use base::MOST_CARS;
 use holding::CAR_MARK;
 use holding::HISTORY_NUMBERS;

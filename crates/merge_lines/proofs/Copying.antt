@@ -10,7 +10,7 @@ use Rattle.reading.specs.declared.letter.Letter.the-variants.{Car as C}
 use Rattle.reading.specs.Letter.{mostFields}
 use Rattle.grammar.specs.Grammar.{cLine}
 use Rattle.holding.specs.Layout.{linePlaces, lineNumbers}
-use Rattle.merge_order.specs.Entry.{carIn}
+use Rattle.merge_order.specs.Inner.{carIn}
 
 -- number j of a line, behind its letter
 number-in : (fields : List ℕ) (i j : ℕ) → j < mostFields → getD fields (linePlaces * i + 1 + j) 0 ≡ getD (carIn fields i) j 0

@@ -15,7 +15,7 @@ use Rattle.line.proofs.Bytes.{length-lineOf, can-write}
 use Rattle.grammar.specs.Text.{textOf}
 use Rattle.grammar.proofs.Text.{text-append}
 use Rattle.printing.proofs.Laid.{Laid}
-use Rattle.merge_lines.specs.Room.{Fits, Room}
+use Rattle.merge_lines.specs.Inner.{Fits, Room}
 
 module _ (lent : List ℕ) (from : ℕ) (all : List Line) (fits : from + length (textOf all) ≤ length lent) (out : List ℕ) (at : ℕ) where
   -- some lines have room, and with them written the others are left

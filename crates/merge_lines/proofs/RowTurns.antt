@@ -17,7 +17,7 @@ use Rattle.table.proofs.Arrays as arrays
 use Rattle.grammar.specs.Text.{textOf}
 use Rattle.grammar.specs.Grammar.{tLine, rLine, tableLines}
 use Rattle.printing.proofs.Laid.{Laid, none-laid, all-laid}
-use Rattle.merge_lines.specs.Room.{Fits, Room, tableFrom, Appended}
+use Rattle.merge_lines.specs.Inner.{Fits, Room, tableFrom, Appended}
 use Rattle.merge_lines.proofs.Laid.{next-room, next-laid}
 
 module _ (kind rows start : ℕ) (levels capacities : List ℕ) where

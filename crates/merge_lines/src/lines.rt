@@ -6,7 +6,7 @@ ghost use Rattle.base.specs.Limits.{mostCarLines, mostStrikes};
 ghost use Rattle.reading.specs.Letter.{mostFields};
 ghost use Rattle.table.specs.Table.{rowOf};
 ghost use Rattle.grammar.specs.Grammar.{tLine, rLine, cLine, eLine};
-ghost use Rattle.merge_order.specs.Entry.{carIn};
+ghost use Rattle.merge_order.specs.Inner.{carIn};
 use holding::HISTORY_NUMBERS;
 use holding::LINE_PLACES;
 use reading::Letter;

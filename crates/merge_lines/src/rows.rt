@@ -3,7 +3,7 @@ ghost use Prim.Native.Nat.{_+_, _≤_};
 ghost use lib.ListN.{length};
 ghost use Rattle.table.specs.Layout.{places};
 ghost use Rattle.grammar.specs.Grammar.{tableLines};
-ghost use Rattle.merge_lines.specs.Room.{Room, tableFrom, Appended};
+ghost use Rattle.merge_lines.specs.Inner.{Room, tableFrom, Appended};
 use crate::lines::row_line;
 use crate::lines::table_line;
 use printing::append_line;

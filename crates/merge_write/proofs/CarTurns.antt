@@ -13,10 +13,10 @@ use Rattle.grammar.specs.Text.{textOf}
 use Rattle.grammar.specs.Grammar.{cLine, CarNumbers}
 use Rattle.grammar.proofs.Text.{car-places}
 use Rattle.printing.proofs.Laid.{Laid, none-laid, all-laid}
-use Rattle.merge_lines.specs.Room.{Fits, Appended}
+use Rattle.merge_lines.specs.Inner.{Fits, Appended}
 use Rattle.merge_lines.proofs.Laid.{next-room, next-laid}
-use Rattle.merge_order.specs.Entry.{placeOf}
-use Rattle.merge_write.specs.Cars.{carBy, Stands, carLines, CarsReady}
+use Rattle.merge_order.specs.Inner.{placeOf}
+use Rattle.merge_write.specs.Inner.{carBy, Stands, carLines, CarsReady}
 use Rattle.merge_order.proofs.Rest.{rest, rest-all, rest-next, rest-none}
 
 car-fits : (car : List ℕ) → CarNumbers car → Fits (cLine car)

@@ -12,10 +12,10 @@ use Rattle.table.specs.declared.Directory.{Directory}
 use Rattle.grammar.specs.Text.{textOf}
 use Rattle.grammar.specs.Grammar.{tableLines, tablesLines}
 use Rattle.printing.proofs.Laid.{Laid, none-laid, all-laid}
-use Rattle.merge_lines.specs.Room.{Fits, Room, Appended}
+use Rattle.merge_lines.specs.Inner.{Fits, Room, Appended}
 use Rattle.merge_lines.proofs.Laid.{some-room, some-laid}
-use Rattle.merge_order.specs.Entry.{placeOf}
-use Rattle.merge_write.specs.Tables.{tablePlace, tablesWith, TablesReady}
+use Rattle.merge_order.specs.Inner.{placeOf}
+use Rattle.merge_write.specs.Inner.{tablePlace, tablesWith, TablesReady}
 use Rattle.merge_order.proofs.Rest.{rest, rest-all, rest-next, rest-none}
 
 each-parts : {A : Type 0} (P : A → Type 0) (k l : List A) → Each P (k ++ l) → Each P k × Each P l

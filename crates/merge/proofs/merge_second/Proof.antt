@@ -9,7 +9,7 @@ use Rattle.table.specs.Layout.{tablesOf}
 use Rattle.holding.specs.Layout.{historyOf}
 use Rattle.merge_spec.specs.Merge.{Half, holds, halfOf}
 use Rattle.merge_spec.specs.Inner.{keptFrom, Merged, mergedOf, replyTo, writtenFor}
-use Rattle.merge_held.specs.Held.{mostLines}
+use Rattle.merge_held.specs.Inner.{mostLines}
 use Rattle.merge.proofs.Answers.{refused-read, whole-good, whole-few, whole-half}
 use Rattle.merge.proofs.merge_second.Statement.{statement}
 use Rattle.merge.proofs.merge_second.Tie as tie

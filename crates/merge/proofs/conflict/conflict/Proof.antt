@@ -2,7 +2,7 @@
 use mathlib.Core.Path.{_≡_, sym, _∙_}
 use mathlib.Core.Bool.{Bool}
 use Rattle.table.specs.Layout.{tablesOf}
-use Rattle.merge_held.specs.Held.{carsAt}
+use Rattle.merge_held.specs.Inner.{carsAt}
 use Rattle.merge_spec.specs.Merge.{rowsDiffer, typeElsewhere, heldOnBoth}
 use Rattle.merge.proofs.Clashes.{by-rows, by-first, by-second, by-number, by-none, numbers-told}
 use denote.Ref.{now}

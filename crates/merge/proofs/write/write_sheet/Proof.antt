@@ -7,8 +7,7 @@ use Rattle.reading.specs.declared.letter.Line.{Line}
 use Rattle.reading.specs.Letter.{widthOf}
 use Rattle.line.specs.Writing.{lineOf}
 use Rattle.grammar.specs.Grammar.{eLine, tablesLines}
-use Rattle.merge_write.specs.Cars.{carLines}
-use Rattle.merge_write.specs.Tables.{tablesWith}
+use Rattle.merge_write.specs.Inner.{carLines, tablesWith}
 use Rattle.merge.proofs.Fitting.{end-room, parts-length, parts-at, parts-laid}
 use denote.Ref.{now}
 use native.Mathlib.Omega.{arith}

@@ -7,7 +7,7 @@ use Rattle.base.specs.Limits.{mostCarLines, mostStrikes}
 use Rattle.base.specs.Numbers.{member}
 use Rattle.table.specs.Layout.{typesOf}
 use Rattle.merge_spec.specs.Held.{kindOf}
-use Rattle.merge_order.specs.Entry.{carIn}
+use Rattle.merge_order.specs.Inner.{carIn}
 use Rattle.merge_conflicts.proofs.Passing.{Passing, passing-first, place-low, its-kind, passing-hit, passing-miss, passing-last}
 use borrow.Author.Needs.{needs}
 use denote.Ref.{now}

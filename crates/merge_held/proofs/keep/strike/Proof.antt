@@ -14,7 +14,7 @@ use Rattle.base.specs.Limits.{mostCars}
 use Rattle.base.specs.Numbers.{member}
 use Rattle.consist.specs.Train.{position, removeAt, closed}
 use Rattle.consist.proofs.Places.{member-position, closed-length}
-use Rattle.merge_held.specs.Held.{Rows, oneLess}
+use Rattle.merge_held.specs.Inner.{Rows, oneLess}
 use Rattle.merge_held.proofs.Rows.{closed-take}
 use Rattle.merge_held.proofs.keep.strike.Statement.{statement}
 use Rattle.merge_held.proofs.keep.strike.Tie as tie

@@ -6,7 +6,7 @@ use native.Mathlib.Omega.{arith}
 use borrow.Author.Tests.{lt-ltb, le-ltb}
 use denote.Ref.{now}
 use Rattle.grammar.specs.Grammar.{cLine}
-use Rattle.merge_order.specs.Entry.{halfSpan, carIn}
+use Rattle.merge_order.specs.Inner.{halfSpan, carIn}
 use Rattle.merge_write.proofs.cars.line_by.Statement.{statement}
 use Rattle.merge_write.proofs.cars.line_by.Tie as tie
 

@@ -12,7 +12,7 @@ use Rattle.consist.specs.Train.{position, removeAt}
 use Rattle.holding.specs.Layout.{historyOf}
 use Rattle.merge_spec.specs.Held.{numberOf}
 use Rattle.merge_spec.specs.Inner.{keptFrom}
-use Rattle.merge_order.specs.Entry.{carIn}
+use Rattle.merge_order.specs.Inner.{carIn}
 use Rattle.merge_held.specs.declared.Held.{Held}
 
 -- how many lines stand behind the tables at most

@@ -9,11 +9,10 @@ use Rattle.table.specs.declared.Directory.{Directory}
 use Rattle.grammar.specs.Text.{textOf}
 use Rattle.grammar.specs.Grammar.{eLine, tablesLines}
 use Rattle.merge_spec.specs.Held.{numberOf}
-use Rattle.merge_order.specs.Entry.{entriesOf}
+use Rattle.merge_order.specs.Inner.{entriesOf}
 use Rattle.merge_held.specs.declared.Held.{Held}
-use Rattle.merge_held.specs.Held.{mostLines, carsAt}
-use Rattle.merge_write.specs.Cars.{carLines, CarsReady}
-use Rattle.merge_write.specs.Tables.{tablesWith, TablesReady}
+use Rattle.merge_held.specs.Inner.{mostLines, carsAt}
+use Rattle.merge_write.specs.Inner.{carLines, CarsReady, tablesWith, TablesReady}
 
 abbrev pub carEntries : ℕ → Held → List ℕ
 carEntries offset h = entriesOf offset (take (h .count) (h .numbers)) (take (h .count) (h .places))
