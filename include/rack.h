@@ -1,8 +1,9 @@
 /*
- * Fuel oil in rail tank cars: a whole sheet answered, and each of its operations by itself.
+ * Fuel oil in rail tank cars: a whole sheet answered, two sheets merged, and each of a sheet's operations by
+ * itself.
  * Link with target/staticlib/librack.a, which bin/library writes.
  *
- * Every function but rack_answer_sheet hands back
+ * Every function but rack_answer_sheet and rack_merge_sheets hands back
  *   0                 the operation's figures stand in the places that were lent for them;
  *   2 to 32           the refusal of this number (README.md), the first that applies;
  *   RACK_BAD_LENGTH   a slice has not the length that is asked for;
@@ -19,10 +20,11 @@
  * What is only read may.
  * Threads: nothing is kept after a call and no memory is asked for, so calls from several threads at
  * once do not disturb each other.
- * Stack: 32,768 bytes are enough for every function; rack_answer_sheet takes about 29,000 of them,
- * rack_permitted_error_probe about 17,000, rack_train_enter and rack_train_enter_probe about 6,000, each
- * other function that takes a car or a density about 4,000, of which 3,604 are the stored coefficients of
- * expansion, rack_train_strike about 3,000, the rest less than 2,000.
+ * Stack: 65,536 bytes are enough for every function, and 32,768 for every one but rack_merge_sheets, which
+ * takes about 52,000; rack_answer_sheet takes about 29,000, rack_permitted_error_probe about 17,000,
+ * rack_train_enter and rack_train_enter_probe about 6,000, each other function that takes a car or a density
+ * about 4,000, of which 3,604 are the stored coefficients of expansion, rack_train_strike about 3,000, the
+ * rest less than 2,000.
  *
  * Units: a mean level, a stick level and the level of the tape allowance in 0.1 mm; readings, those of the
  * tape too, water levels and the levels of a table's rows in mm; capacities in dm3 at 20 C, volumes in
@@ -49,6 +51,9 @@ extern "C" {
 
 /* Bytes that an answer buffer must have; a shorter one is refused by 1. */
 #define RACK_ANSWER_BYTES 8101
+
+/* Bytes that a buffer for a merged sheet must have; a shorter one is refused by 1. */
+#define RACK_MERGE_BYTES 39771
 
 /* No refusals: what is lent cannot be asked about. */
 #define RACK_BAD_LENGTH 1000
@@ -87,6 +92,32 @@ extern "C" {
 size_t rack_answer_sheet(const uint8_t *text, size_t text_len,
                          uint8_t *out, size_t out_len,
                          uint32_t *number);
+
+/*
+ * Makes one sheet of two, of `first_len` bytes at `first` and of `second_len` bytes at `second`. It has each
+ * type of either sheet once with its rows, rising by type, also one that no car has; then the cars that
+ * either sheet holds at its end, accepted or refused, each by its C line as it stands, rising by number; then
+ * E, and no K line. So lines of cars that were struck, and such as 9, 10 or 11 turns away, vanish. The merged
+ * sheet is written from the start of `out`, which has `out_len` bytes, and its length in bytes is returned.
+ * No zero byte is put after it: the bytes of `out` past the length stay as they were lent.
+ *
+ * `*number` and `*line` are set to
+ *   0, 0        the sheets are merged. rack_answer_sheet reads what is written: each car has the line that it
+ *               has on its own sheet, and the totals, of each grade too, are the sums of both sheets';
+ *   1, 0        `out` has fewer than RACK_MERGE_BYTES bytes, be the sheets what they may;
+ *   2 to 9      a sheet is itself refused by this number, in this line, 0 for 2; the first sheet's refusal
+ *               comes before the second's;
+ *   33, 0       a type has different rows on the two sheets, or a car that one holds and 12 refuses there has
+ *               its type on the other;
+ *   34, 0       both sheets hold a car number;
+ *   35, 0       more than four types or more than sixty cars would be on the merged sheet.
+ * The first that applies, in this order, is given. Beside any number but 0 nothing is written into `out`, and
+ * 0 is returned.
+ */
+size_t rack_merge_sheets(const uint8_t *first, size_t first_len,
+                         const uint8_t *second, size_t second_len,
+                         uint8_t *out, size_t out_len,
+                         uint32_t *number, uint32_t *line);
 
 /*
  * Reads one line of a sheet: the byte of its letter (T, R, C, K or E) into `*letter`, its numbers into

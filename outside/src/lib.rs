@@ -4,6 +4,7 @@
 //! Each hands back what `include/rack.h` says of it, and takes slices of any length.
 
 pub mod floats;
+mod merge;
 pub mod probe;
 pub mod random;
 pub mod slices;
@@ -11,6 +12,7 @@ pub mod stick;
 pub mod train;
 pub mod tuned;
 
+pub use merge::merge_sheets;
 pub use probe::{
     permitted_error_probe, reading_tenths, set_tenths, train_enter_probe, work_out_probe,
     PROBE_FIELDS, SET,

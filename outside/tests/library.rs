@@ -3,6 +3,7 @@
 
 use outside::train::{state_of, train_of};
 use outside::{answer_sheet, FIELDS, TRAIN, TRAIN_GRADES, TRAIN_GROSSES};
+use reference::merge::MERGED_BYTES;
 use reference::train::Place;
 use reference::{conformance, sheets, ANSWER_BYTES, SHEET_BYTES};
 
@@ -92,6 +93,7 @@ fn constants_of_the_header() {
     let constants = [
         ("SHEET_BYTES", SHEET_BYTES),
         ("ANSWER_BYTES", ANSWER_BYTES),
+        ("MERGE_BYTES", MERGED_BYTES),
         ("BAD_LENGTH", outside::BAD_LENGTH as usize),
         ("BAD_LETTER", outside::BAD_LETTER as usize),
         ("FIELDS", FIELDS),

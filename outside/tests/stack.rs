@@ -9,22 +9,27 @@ use outside::{
     TRAIN,
 };
 use reference::car::Car;
+use reference::merge::MERGED_BYTES;
 use reference::operations::{self, HandedIn};
 use reference::probe::Set;
 use reference::table::Row;
 use reference::train::Train;
 use reference::{sheets, ANSWER_BYTES};
 
-/// Bytes that the header says are enough for all.
-const ENOUGH: usize = 32_768;
-/// What it says of a sheet, of the permitted error of a probe's car, of a car entered in a train, of the others that
-/// look B up and of a strike, each with 500 bytes for "about", and of any other.
+/// Bytes that the header says are enough for all, and for all but a merge.
+const ENOUGH: usize = 65_536;
+const ENOUGH_BUT_FOR_A_MERGE: usize = 32_768;
+/// What it says of a merge, of a sheet, of the permitted error of a probe's car, of a car entered in a train, of the
+/// others that look B up and of a strike, each with 500 bytes for "about", and of any other.
+const OF_A_MERGE: usize = 52_500;
 const OF_A_SHEET: usize = 29_500;
 const OF_A_PROBES_ERROR: usize = 17_500;
 const OF_AN_ENTRY: usize = 6_500;
 const OF_A_DENSITY: usize = 4_500;
 const OF_A_STRIKE: usize = 3_500;
 const OF_ANY_OTHER: usize = 2_000;
+
+const _: () = assert!(OF_A_MERGE <= ENOUGH && OF_A_SHEET <= ENOUGH_BUT_FOR_A_MERGE);
 
 /// What the stack of a call holds before it, 16 bytes at a time, and how many times.
 const UNTOUCHED: u128 = u128::from_ne_bytes([0xa5; 16]);
@@ -82,7 +87,7 @@ fn stack_of(mut operation: &mut dyn FnMut() -> u32) -> usize {
 fn hold_to(most: usize, name: &str, operation: &mut dyn FnMut() -> u32) {
     let bytes = stack_of(operation);
     println!("{name}: {bytes} bytes of stack");
-    assert!(bytes <= most.min(ENOUGH), "{name}: {bytes}");
+    assert!(bytes <= most, "{name}: {bytes}");
 }
 
 /// Holds one that looks B up.
@@ -93,6 +98,20 @@ fn hold_density(name: &str, operation: &mut dyn FnMut() -> u32) {
 /// Holds one of those that the header does not name.
 fn hold(name: &str, operation: &mut dyn FnMut() -> u32) {
     hold_to(OF_ANY_OTHER, name, operation);
+}
+
+/// Sheets of the greatest length, such as make a merged one of the greatest length, and small ones.
+#[test]
+fn merges() {
+    let mut out = [0; MERGED_BYTES];
+    let small: &[u8] =
+        b"T        1        2\nR        0        0\nR        1        1\nE        0\n";
+    let small = (small.to_vec(), small.to_vec());
+    for (first, second) in [sheets::fullest_pair(0), sheets::full_pair(0), small] {
+        hold_to(OF_A_MERGE, "merge_sheets", &mut || {
+            outside::merge_sheets(&first, &second, &mut out).number
+        });
+    }
 }
 
 #[test]

@@ -1,6 +1,8 @@
 //! The library's permitted error, laboratory's density, tape allowance, stick against the tape, trains handed
-//! in with a strike or a car, expansion of oil, and the portable probe: every line of the files of vectors.
+//! in with a strike or a car, expansion of oil, the portable probe, and buffers for a merged sheet: every line
+//! of the files of vectors.
 
+mod merge;
 mod probe;
 
 use outside::slices::Slices;

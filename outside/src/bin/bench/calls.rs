@@ -21,7 +21,18 @@ pub fn line(
     proved: &mut dyn FnMut(),
     reference: &mut dyn FnMut(),
 ) {
-    let [proved, reference] = timing::least([proved, reference]);
+    line_of(1, name, answer, proved, reference);
+}
+
+/// Times both, each of which makes so many calls in a pass, and prints the line of one.
+pub fn line_of(
+    calls: usize,
+    name: &str,
+    answer: impl Display,
+    proved: &mut dyn FnMut(),
+    reference: &mut dyn FnMut(),
+) {
+    let [proved, reference] = timing::least([proved, reference]).map(|time| time / calls as f64);
     println!("{name:38} {answer:>10} {proved:>8.1} {reference:>9.1} {:>20.2}", proved / reference);
 }
 

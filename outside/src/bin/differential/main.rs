@@ -1,14 +1,21 @@
 //! Answers with the proved code and with the reference, and compares both: `differential [COUNT
-//! [FIRST_SEED]]` generated sheets, to the byte, and some floats of a probe, to the bit; `differential
-//! --floats` every float that there is. Ends with status 1 at the first difference.
+//! [FIRST_SEED]]` generated sheets and a seventh as many pairs to be merged, to the byte, and some floats of a
+//! probe, to the bit; `differential --floats` every float that there is. Ends with status 1 at the first
+//! difference.
 
 mod floats;
+mod lent;
+mod pairs;
+mod refused;
 mod sheets;
 
 use std::process::ExitCode;
 
 /// Sheets that are compared where the caller names no count.
 const SHEETS: u64 = 20_000;
+
+/// Sheets for one pair.
+const FOR_A_PAIR: u64 = 7;
 
 fn main() -> ExitCode {
     let arguments: Vec<String> = std::env::args().skip(1).collect();
@@ -25,7 +32,11 @@ fn main() -> ExitCode {
             return ExitCode::from(2);
         }
     };
-    status(sheets::compare_some(count, first) && floats::compare_some())
+    status(
+        sheets::compare_some(count, first)
+            && pairs::compare_some(count / FOR_A_PAIR, first)
+            && floats::compare_some(),
+    )
 }
 
 fn status(alike: bool) -> ExitCode {

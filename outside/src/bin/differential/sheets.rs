@@ -3,13 +3,9 @@
 use outside::random::mix;
 use reference::{sheets, ANSWER_BYTES};
 
+use crate::lent::{lines, Lent};
 use crate::on_every_core;
-
-/// Bytes on both sides of the answer buffer, which no program may touch.
-const MARGIN: usize = 64;
-
-/// Refusals are numbered below this.
-const NUMBERS: usize = 31;
+use crate::refused::Refused;
 
 /// Buffers that are too short: by one byte, by the four G lines, so that the longest listing that can be
 /// has just room (120 A lines and 60 K lines), and as long as was asked for before there were strikes.
@@ -49,25 +45,19 @@ fn compare(seeds: impl Iterator<Item = u64>) -> Option<Tally> {
 struct Outcome {
     length: usize,
     number: u32,
-    bytes: Vec<u8>,
+    answer: Lent,
 }
 
 impl Outcome {
     /// Lends a buffer with the seed's size and pattern to a program.
     fn of(program: fn(&[u8], &mut [u8]) -> (usize, u32), sheet: &[u8], seed: u64) -> Self {
-        let room = room(seed);
-        let mut bytes = vec![0; room + 2 * MARGIN];
-        for (place, eight) in (0..).zip(bytes.chunks_mut(8)) {
-            eight.copy_from_slice(&mix(seed ^ place << 32).to_le_bytes()[..eight.len()]);
-        }
-        let (length, number) = program(sheet, &mut bytes[MARGIN..MARGIN + room]);
-        Self { length, number, bytes }
+        let mut answer = Lent::new(room(seed), seed);
+        let (length, number) = program(sheet, answer.buffer());
+        Self { length, number, answer }
     }
 
-    /// The bytes that the program says it wrote, as far as there are so many.
     fn answer(&self) -> &[u8] {
-        let room = self.bytes.len() - 2 * MARGIN;
-        &self.bytes[MARGIN..MARGIN + self.length.min(room)]
+        self.answer.start(self.length)
     }
 }
 
@@ -87,11 +77,8 @@ fn report_difference(seed: u64, sheet: &[u8], proved: &Outcome, expected: &Outco
     println!("seed {seed}: the answers differ, buffer of {} bytes", room(seed));
     println!("proved: length {}, number {}", proved.length, proved.number);
     println!("reference: length {}, number {}", expected.length, expected.number);
-    let place = proved.bytes.iter().zip(&expected.bytes).position(|(one, other)| one != other);
-    if let Some(place) = place {
-        println!("first byte that differs: {} of the buffer", place as isize - MARGIN as isize);
-    }
-    println!("sheet:\n{}", sheet.escape_ascii().to_string().replace("\\n", "\n"));
+    proved.answer.report_difference(&expected.answer);
+    println!("sheet:\n{}", lines(sheet));
     println!("proved:\n{}", String::from_utf8_lossy(proved.answer()));
     println!("reference:\n{}", String::from_utf8_lossy(expected.answer()));
 }
@@ -107,8 +94,8 @@ struct Tally {
     /// Accepted cars of each grade, from 1 to 4, that are held at the end.
     grades: [u64; 4],
     /// By their numbers: sheets refused, and cars and strikes refused.
-    refused_sheets: [u64; NUMBERS],
-    refused_lines: [u64; NUMBERS],
+    refused_sheets: Refused,
+    refused_lines: Refused,
 }
 
 impl Tally {
@@ -118,9 +105,9 @@ impl Tally {
         self.accepted_sheets += other.accepted_sheets;
         self.accepted += other.accepted;
         self.struck += other.struck;
-        add(&mut self.grades, &other.grades);
-        add(&mut self.refused_sheets, &other.refused_sheets);
-        add(&mut self.refused_lines, &other.refused_lines);
+        self.grades.iter_mut().zip(other.grades).for_each(|(here, there)| *here += there);
+        self.refused_sheets.add(&other.refused_sheets);
+        self.refused_lines.add(&other.refused_lines);
         self
     }
 
@@ -128,13 +115,13 @@ impl Tally {
         self.sheets += 1;
         match outcome.number {
             0 => self.accepted_sheets += 1,
-            number => self.refused_sheets[number as usize] += 1,
+            number => self.refused_sheets.count(number as usize),
         }
         for line in outcome.answer().split(|&byte| byte == b'\n') {
             match line.first() {
                 Some(b'A') => self.accepted += 1,
                 Some(b'K') => self.struck += 1,
-                Some(b'X') => self.refused_lines[field(line, 1)] += 1,
+                Some(b'X') => self.refused_lines.count(field(line, 1)),
                 Some(b'G') => self.grades[field(line, 0) - 1] += field(line, 1) as u64,
                 _ => {}
             }
@@ -146,21 +133,10 @@ impl Tally {
         println!("accepted: {} sheets, {} cars", self.accepted_sheets, self.accepted);
         println!("cars struck: {}", self.struck);
         println!("cars held at the end, by the G lines of grades 1 to 4: {:?}", self.grades);
-        let numbers = (1..10).collect();
-        println!("sheets refused, by number: {}", counts(&self.refused_sheets, numbers));
-        let numbers = (9..16).chain([23]).chain(16..22).chain([30]).collect();
-        println!("cars and strikes refused, by number: {}", counts(&self.refused_lines, numbers));
+        println!("sheets refused, by number: {}", self.refused_sheets.by_number(1..10));
+        let numbers = (9..16).chain([23]).chain(16..22).chain([30]);
+        println!("cars and strikes refused, by number: {}", self.refused_lines.by_number(numbers));
     }
-}
-
-fn add(here: &mut [u64], there: &[u64]) {
-    here.iter_mut().zip(there).for_each(|(here, there)| *here += there);
-}
-
-fn counts(refused: &[u64; NUMBERS], numbers: Vec<usize>) -> String {
-    let counts: Vec<String> =
-        numbers.iter().map(|&number| format!("{number}: {}", refused[number])).collect();
-    counts.join(", ")
 }
 
 /// The number in a field of a line, from 0 on.
