@@ -38,7 +38,7 @@ begun-all (t ∷ u ∷ ts) = ap (λ (x : List Line). tableLines t ++ x) (begun-a
 text-length : (a b : List Line) → length (textOf (a ++ b)) ≡ length (textOf a) + length (textOf b)
 text-length a b = ap length (text-append a b) ∙ length-append (textOf a) (textOf b)
 
-rows-length : (rows : List Row) → length (textOf (map rLine rows)) ≡ widthOf R * length rows
+pub rows-length : (rows : List Row) → length (textOf (map rLine rows)) ≡ widthOf R * length rows
 unfolding textOf
 rows-length [] = refl
 rows-length (row ∷ rows) = rw (length-append, length-lineOf (rLine row) refl, rows-length rows) (omega arith)

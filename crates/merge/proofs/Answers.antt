@@ -7,7 +7,7 @@ use native.Mathlib.Omega.{arith}
 use lib.ListN.{length}
 use borrow.Author.Tests.{lt-ltb, le-ltb}
 use Rattle.table.specs.Layout.{tablesOf}
-use Rattle.grammar.specs.Grammar.{WholeSheet}
+use Rattle.grammar.specs.Grammar.{sheetText, WholeSheet}
 use Rattle.grammar.specs.Sheet.{SheetRead, refusedAt, whole, sheetOf}
 use Rattle.grammar.proofs.ByGrammar.{by-grammar}
 use Rattle.holding.specs.declared.Outcome.{Outcome}
@@ -34,6 +34,9 @@ module _ (s : List ℕ) (r : Contents) (l c f : List ℕ) (e : readIn r l c f �
 
   pub whole-good : r .outcome ≡ Whole → WholeSheet (tablesOf (r .directory) l c) (historyOf f (r .cars + r .struck))
   whole-good q = by-grammar s .good (tablesOf (r .directory) l c) (historyOf f (r .cars + r .struck)) (whole-read q)
+
+  pub whole-text : r .outcome ≡ Whole → s ≡ sheetText (tablesOf (r .directory) l c) (historyOf f (r .cars + r .struck))
+  whole-text q = by-grammar s .only (tablesOf (r .directory) l c) (historyOf f (r .cars + r .struck)) (whole-read q)
 
   pub whole-few : r .outcome ≡ Whole → r .cars + r .struck ≤ mostLines
   whole-few q = few-lines f (r .cars + r .struck) (whole-good q .few-cars) (whole-good q .few-strikes)

@@ -1,4 +1,5 @@
 pub mod Standing
+pub mod Copied
 pub mod Fitting
 pub mod Whole
 pub mod Clashes

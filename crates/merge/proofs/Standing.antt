@@ -1,16 +1,18 @@
--- What the entries in their order stand for: the joined cars, and the joined tables.
+-- What the entries in their order stand for: the joined cars, and the joined tables, whose bytes are those that are copied.
 use Prim.Native.Nat.{ℕ, zero, suc, _+_, _-_, _*_, _/_, _%_, _≤_, _<_}
 use mathlib.Core.Path.{_≡_, refl, ap, ap₂, sym, subst, _∙_}
-use mathlib.Core.Bool.{Bool, cond}
-use mathlib.Core.List.{List, [], _∷_, map}
+use mathlib.Core.Bool.{Bool, true, false, cond}
+use mathlib.Core.List.{List, [], _∷_, _++_, map}
 use native.Mathlib.Nat.{div-add-mod'}
 use native.Mathlib.Numerals.{add-one}
 use native.Mathlib.Omega.{arith}
+use lib.Dec.{ltb}
 use lib.ListN.{length, getD, take, drop}
 use lib.Seq.{drop-cons}
 use borrow.Author.Tests.{lt-ltb, le-ltb}
 use Rattle.base.specs.Limits.{mostTables, mostRows}
 use Rattle.base.specs.Lists.{Each}
+use Rattle.base.proofs.Lists.{length-map}
 use Rattle.table.specs.Table.{Table}
 use Rattle.table.specs.declared.Directory.{Directory}
 use Rattle.table.specs.Layout.{tableAt, tablesFrom, tablesOf}
@@ -18,11 +20,14 @@ use Rattle.merge_held.specs.declared.Held.{Held}
 use Rattle.merge_held.specs.Inner.{mostLines, carsAt, HeldIn}
 use Rattle.holding.specs.Layout.{historyOf}
 use Rattle.merge_order.specs.Inner.{halfSpan, span, keyOf, placeOf, entryOf, entriesOf, carIn}
+use Rattle.grammar.specs.Text.{textOf}
+use Rattle.grammar.specs.Grammar.{tableLines, tablesLines}
+use Rattle.grammar.proofs.Text.{text-append}
 use Rattle.merge_spec.specs.Held.{numberOf}
 use Rattle.merge_spec.specs.Merge.{tableKind}
 use Rattle.merge_spec.specs.Inner.{insertedAll, joined, joinedTables, joinedCars, keptFrom}
 use Rattle.merge_spec.proofs.Order.{SameKey, each-all, map-all}
-use Rattle.merge_write.specs.Inner.{Stands, carPlace, carBy, tablePlace}
+use Rattle.merge_write.specs.Inner.{Stands, carPlace, carBy, tableText, Within, textPlace, WithinPlace, tablesText}
 use Rattle.merge.specs.Inner.{carEntries, tableEntries}
 
 -- An entry gives its key and its place back.
@@ -115,70 +120,163 @@ four-places (suc (suc (suc zero))) h = refl
 four-places (suc (suc (suc (suc zero)))) h = refl
 four-places (suc (suc (suc (suc (suc n))))) h = absurd (omega arith)
 
-module _ (d : Directory) (l c : List ℕ) (e : Directory) (l′ c′ : List ℕ) where
+-- Two sheets by their directories, arrays and bytes: each table's bytes are found in its sheet.
+pub record Tables : Type 0 where
+  pub d : Directory
+  pub l : List ℕ
+  pub c : List ℕ
+  pub s : List ℕ
+  pub e : Directory
+  pub l′ : List ℕ
+  pub c′ : List ℕ
+  pub r : List ℕ
+  pub size : length (d .types) ≡ mostTables
+  pub size′ : length (e .types) ≡ mostTables
+  pub few : d .count ≤ mostTables
+  pub few′ : e .count ≤ mostTables
+  pub ours : (k : ℕ) → k < d .count → (tableText d s k ≡ textOf (tableLines (tableAt (d .types) (d .rows) l c k))) × Within d s k
+  pub theirs : (k : ℕ) → k < e .count → (tableText e r k ≡ textOf (tableLines (tableAt (e .types) (e .rows) l′ c′ k))) × Within e r k
+
+module _ (x : Tables) where
+  -- the table at a place: the first sheet's from 0 on, the second's from 4 on
+  abbrev ourTable : ℕ → Table
+  ourTable k = tableAt (x .d .types) (x .d .rows) (x .l) (x .c) k
+
+  abbrev theirTable : ℕ → Table
+  theirTable k = tableAt (x .e .types) (x .e .rows) (x .l′) (x .c′) k
+
+  abbrev tablePlace : ℕ → Table
+  tablePlace p = cond (ltb p mostTables) (ourTable p) (theirTable (p - mostTables))
+
+  abbrev bytesPlace : ℕ → List ℕ
+  bytesPlace p = textPlace (x .d) (x .s) (x .e) (x .r) p
+
   abbrev standing : ℕ → Table
-  standing x = tablePlace d l c e l′ c′ (placeOf x)
+  standing entry = tablePlace (placeOf entry)
 
-  abbrev StandsT : ℕ → Type 0
-  StandsT = SameKey keyOf tableKind standing
+  abbrev SameType : ℕ → Type 0
+  SameType = SameKey keyOf tableKind standing
 
-  record TableEntries (xs : List ℕ) (ts : List Table) : Type 0 where
-    stand : Each StandsT xs
-    tables-are : map standing xs ≡ ts
-    places : Each (λ x. placeOf x < mostTables + mostTables) xs
+  -- its bytes are found
+  pub record Copied (entry : ℕ) : Type 0 where
+    pub text : bytesPlace (placeOf entry) ≡ textOf (tableLines (standing entry))
+    pub within : WithinPlace (x .d) (x .s) (x .e) (x .r) (placeOf entry)
 
-  first-table : (n k : ℕ) → k < mostTables → standing (entryOf n (0 + k)) ≡ tableAt (d .types) (d .rows) l c k
-  first-table n k h =
-      let q : 0 + k ≡ k = omega arith in
-      ap (tablePlace d l c e l′ c′) (ap (λ (x : ℕ). placeOf (entryOf n x)) q ∙ entry-place n k (omega arith))
-      ∙ ap (λ (b : Bool). cond b (tableAt (d .types) (d .rows) l c k) (tableAt (e .types) (e .rows) l′ c′ (k - mostTables))) (lt-ltb k mostTables h)
+  record TableEntries (entries : List ℕ) (ts : List Table) : Type 0 where
+    stand : Each SameType entries
+    tables-are : map standing entries ≡ ts
+    copied : Each Copied entries
 
-  second-table : (n k : ℕ) → k < mostTables → standing (entryOf n (mostTables + k)) ≡ tableAt (e .types) (e .rows) l′ c′ k
-  second-table n k h =
-      let q : mostTables + k - mostTables ≡ k = omega arith in
-      ap (tablePlace d l c e l′ c′) (entry-place n (mostTables + k) (omega arith))
-      ∙ ap (λ (b : Bool). cond b (tableAt (d .types) (d .rows) l c (mostTables + k)) (tableAt (e .types) (e .rows) l′ c′ (mostTables + k - mostTables))) (le-ltb (mostTables + k) mostTables (omega arith))
-      ∙ ap (tableAt (e .types) (e .rows) l′ c′) q
+  -- a table of the first sheet, and one of the second
+  module _ (n k : ℕ) (h : k < x .d .count) where
+    at-first : placeOf (entryOf n (0 + k)) ≡ k
+    at-first = let q : 0 + k ≡ k = omega arith in ap (λ (y : ℕ). placeOf (entryOf n y)) q ∙ entry-place n k (omega (arith, x .few))
 
-  module _ (offset : ℕ) (few : offset ≤ mostTables) (t : Directory) (m b : List ℕ) (at : (n k : ℕ) → k < mostTables → standing (entryOf n (offset + k)) ≡ tableAt (t .types) (t .rows) m b k) (size : length (t .types) ≡ mostTables) where
-    table-entries : (n k : ℕ) → k + n ≤ mostTables → TableEntries (entriesOf offset (take n (drop k (t .types))) (from k n)) (tablesFrom (t .types) (t .rows) m b k n)
-    table-entries zero k h = record { stand = tt; tables-are = refl; places = tt }
+    low : ltb k mostTables ≡ true
+    low = lt-ltb k mostTables (omega (arith, x .few))
+
+    first-table : standing (entryOf n (0 + k)) ≡ ourTable k
+    first-table = ap tablePlace at-first ∙ ap (λ (b : Bool). cond b (ourTable k) (theirTable (k - mostTables))) low
+
+    first-copied : Copied (entryOf n (0 + k))
+    first-copied = record {
+      text =
+          ap bytesPlace at-first
+          ∙ ap (λ (b : Bool). cond b (tableText (x .d) (x .s) k) (tableText (x .e) (x .r) (k - mostTables))) low
+          ∙ x .ours k h .0
+          ∙ ap (λ (t : Table). textOf (tableLines t)) (sym first-table);
+      within =
+          subst (WithinPlace (x .d) (x .s) (x .e) (x .r)) (sym at-first)
+          (record { place = omega (arith, x .few); ours = λ _. x .ours k h .1; theirs = λ q. absurd (omega (arith, x .few)) });
+    }
+
+  module _ (n k : ℕ) (h : k < x .e .count) where
+    at-second : placeOf (entryOf n (mostTables + k)) ≡ mostTables + k
+    at-second = entry-place n (mostTables + k) (omega (arith, x .few′))
+
+    back : mostTables + k - mostTables ≡ k
+    back = omega arith
+
+    high : ltb (mostTables + k) mostTables ≡ false
+    high = le-ltb (mostTables + k) mostTables (omega arith)
+
+    second-table : standing (entryOf n (mostTables + k)) ≡ theirTable k
+    second-table = ap tablePlace at-second ∙ ap (λ (b : Bool). cond b (ourTable (mostTables + k)) (theirTable (mostTables + k - mostTables))) high ∙ ap theirTable back
+
+    second-copied : Copied (entryOf n (mostTables + k))
+    second-copied = record {
+      text =
+          ap bytesPlace at-second
+          ∙ ap (λ (b : Bool). cond b (tableText (x .d) (x .s) (mostTables + k)) (tableText (x .e) (x .r) (mostTables + k - mostTables))) high
+          ∙ ap (tableText (x .e) (x .r)) back
+          ∙ x .theirs k h .0
+          ∙ ap (λ (t : Table). textOf (tableLines t)) (sym second-table);
+      within =
+          subst (WithinPlace (x .d) (x .s) (x .e) (x .r)) (sym at-second)
+          (record { place = omega (arith, x .few′); ours = λ q. absurd (omega arith); theirs = λ _. subst (Within (x .e) (x .r)) (sym back) (x .theirs k h .1) });
+    }
+
+  -- the tables of one sheet, from table k on
+  module _ (offset : ℕ) (few : offset ≤ mostTables) (t : Directory) (m b : List ℕ) (size : length (t .types) ≡ mostTables) (most : t .count ≤ mostTables)
+      (at : (n k : ℕ) → k < t .count → standing (entryOf n (offset + k)) ≡ tableAt (t .types) (t .rows) m b k) (there : (n k : ℕ) → k < t .count → Copied (entryOf n (offset + k))) where
+    table-entries : (n k : ℕ) → k + n ≤ t .count → TableEntries (entriesOf offset (take n (drop k (t .types))) (from k n)) (tablesFrom (t .types) (t .rows) m b k n)
+    table-entries zero k h = record { stand = tt; tables-are = refl; copied = tt }
     table-entries (suc n) k h =
-        let r = table-entries n (k + 1) (omega arith) in
+        let rest = table-entries n (k + 1) (omega arith) in
         let kind : ℕ = getD (t .types) k 0 in
         let q = at kind k (omega arith) in
         let row : take (suc n) (drop k (t .types)) ≡ kind ∷ take n (drop (k + 1) (t .types)) =
         ap (take (suc n)) (drop-cons (t .types) k 0 (omega arith) ∙ ap (λ (i : ℕ). kind ∷ drop i (t .types)) (sym (add-one k))) in
         subst (λ (ks : List ℕ). TableEntries (entriesOf offset ks (from k (suc n))) (tablesFrom (t .types) (t .rows) m b k (suc n))) (sym row)
         (record {
-          stand = (entry-key kind (offset + k) (omega arith) ∙ ap tableKind (sym q), r .stand);
-          tables-are = ap₂ (λ (x : Table) (y : List Table). x ∷ y) q (r .tables-are);
-          places = (subst (λ (x : ℕ). x < mostTables + mostTables) (sym (entry-place kind (offset + k) (omega arith))) (omega arith), r .places);
+          stand = (entry-key kind (offset + k) (omega arith) ∙ ap tableKind (sym q), rest .stand);
+          tables-are = ap₂ (λ (y : Table) (z : List Table). y ∷ z) q (rest .tables-are);
+          copied = (there kind k (omega arith), rest .copied);
         })
 
-    all-entries : t .count ≤ mostTables → TableEntries (tableEntries offset t) (tablesOf t m b)
-    all-entries h =
-        subst (λ (ps : List ℕ). TableEntries (entriesOf offset (take (t .count) (t .types)) ps) (tablesOf t m b)) (sym (four-places (t .count) h)) (table-entries (t .count) 0 (omega arith))
+    all-entries : TableEntries (tableEntries offset t) (tablesOf t m b)
+    all-entries =
+        subst (λ (ps : List ℕ). TableEntries (entriesOf offset (take (t .count) (t .types)) ps) (tablesOf t m b)) (sym (four-places (t .count) most)) (table-entries (t .count) 0 (omega arith))
 
-  module _ (size : length (d .types) ≡ mostTables) (size′ : length (e .types) ≡ mostTables) (h : d .count ≤ mostTables) (h′ : e .count ≤ mostTables) where
-    abbrev pub tablesOrder : List ℕ
-    tablesOrder = insertedAll keyOf (tableEntries 0 d) (insertedAll keyOf (tableEntries mostTables e) [])
+  abbrev pub tablesOrder : List ℕ
+  tablesOrder = insertedAll keyOf (tableEntries 0 (x .d)) (insertedAll keyOf (tableEntries mostTables (x .e)) [])
 
-    first-tables : TableEntries (tableEntries 0 d) (tablesOf d l c)
-    first-tables = all-entries 0 (omega arith) d l c first-table size h
+  first-tables : TableEntries (tableEntries 0 (x .d)) (tablesOf (x .d) (x .l) (x .c))
+  first-tables = all-entries 0 (omega arith) (x .d) (x .l) (x .c) (x .size) (x .few) first-table first-copied
 
-    second-tables : TableEntries (tableEntries mostTables e) (tablesOf e l′ c′)
-    second-tables = all-entries mostTables (omega arith) e l′ c′ second-table size′ h′
+  second-tables : TableEntries (tableEntries mostTables (x .e)) (tablesOf (x .e) (x .l′) (x .c′))
+  second-tables = all-entries mostTables (omega arith) (x .e) (x .l′) (x .c′) (x .size′) (x .few′) second-table second-copied
 
-    pub tables-stand : map standing tablesOrder ≡ joinedTables (tablesOf d l c) (tablesOf e l′ c′)
-    unfolding joined
-    tables-stand =
-        map-all keyOf tableKind standing (tableEntries 0 d) (insertedAll keyOf (tableEntries mostTables e) []) (first-tables .stand)
-        (each-all keyOf tableKind standing StandsT (tableEntries mostTables e) [] (second-tables .stand) tt)
-        ∙ ap₂ (λ (x y : List Table). insertedAll tableKind x y) (first-tables .tables-are)
-        (map-all keyOf tableKind standing (tableEntries mostTables e) [] (second-tables .stand) tt ∙ ap (λ (x : List Table). insertedAll tableKind x []) (second-tables .tables-are))
+  tables-stand : map standing tablesOrder ≡ joinedTables (tablesOf (x .d) (x .l) (x .c)) (tablesOf (x .e) (x .l′) (x .c′))
+  unfolding joined
+  tables-stand =
+      map-all keyOf tableKind standing (tableEntries 0 (x .d)) (insertedAll keyOf (tableEntries mostTables (x .e)) []) (first-tables .stand)
+      (each-all keyOf tableKind standing SameType (tableEntries mostTables (x .e)) [] (second-tables .stand) tt)
+      ∙ ap₂ (λ (y z : List Table). insertedAll tableKind y z) (first-tables .tables-are)
+      (map-all keyOf tableKind standing (tableEntries mostTables (x .e)) [] (second-tables .stand) tt ∙ ap (λ (y : List Table). insertedAll tableKind y []) (second-tables .tables-are))
 
-    pub tables-places : Each (λ x. placeOf x < mostTables + mostTables) tablesOrder
-    tables-places =
-        each-all keyOf tableKind standing (λ x. placeOf x < mostTables + mostTables) (tableEntries 0 d) (insertedAll keyOf (tableEntries mostTables e) []) (first-tables .places)
-        (each-all keyOf tableKind standing (λ x. placeOf x < mostTables + mostTables) (tableEntries mostTables e) [] (second-tables .places) tt)
+  all-copied : Each Copied tablesOrder
+  all-copied =
+      each-all keyOf tableKind standing Copied (tableEntries 0 (x .d)) (insertedAll keyOf (tableEntries mostTables (x .e)) []) (first-tables .copied)
+      (each-all keyOf tableKind standing Copied (tableEntries mostTables (x .e)) [] (second-tables .copied) tt)
+
+  -- as many as the tables together
+  pub tables-counted : length tablesOrder ≡ length (joinedTables (tablesOf (x .d) (x .l) (x .c)) (tablesOf (x .e) (x .l′) (x .c′)))
+  tables-counted = sym (length-map standing tablesOrder) ∙ ap length tables-stand
+
+  -- the bytes are their text
+  texts-are : (order : List ℕ) → Each Copied order → tablesText (x .d) (x .s) (x .e) (x .r) order ≡ textOf (tablesLines (map standing order))
+  unfolding textOf
+  texts-are [] h = refl
+  texts-are (entry ∷ order) (h, hs) =
+      ap₂ (λ (y z : List ℕ). y ++ z) (h .text) (texts-are order hs) ∙ sym (text-append (tableLines (standing entry)) (tablesLines (map standing order)))
+
+  pub tables-text : tablesText (x .d) (x .s) (x .e) (x .r) tablesOrder ≡ textOf (tablesLines (joinedTables (tablesOf (x .d) (x .l) (x .c)) (tablesOf (x .e) (x .l′) (x .c′))))
+  tables-text = texts-are tablesOrder all-copied ∙ ap (λ (ts : List Table). textOf (tablesLines ts)) tables-stand
+
+  pub tables-within : Each (λ entry. WithinPlace (x .d) (x .s) (x .e) (x .r) (placeOf entry)) tablesOrder
+  tables-within = within-each tablesOrder all-copied
+    where
+      within-each : (order : List ℕ) → Each Copied order → Each (λ entry. WithinPlace (x .d) (x .s) (x .e) (x .r) (placeOf entry)) order
+      within-each [] h = tt
+      within-each (entry ∷ order) (h, hs) = (h .within, within-each order hs)

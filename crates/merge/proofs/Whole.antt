@@ -1,13 +1,13 @@
 -- Two sheets that were read: what merging them gives, by what the code finds.
 use Prim.Native.Nat.{ℕ, zero, suc, _+_, _≤_, _<_}
 use mathlib.Core.Path.{_≡_, refl, ap, ap₂, sym, subst, _∙_}
-use mathlib.Core.Bool.{Bool, true, false, _||_, or-true}
+use mathlib.Core.Bool.{Bool, true, false, _||_}
 use mathlib.Core.List.{List, [], _∷_, _++_, map}
 use native.Mathlib.Omega.{arith}
 use lib.Dec.{ltb}
 use lib.ListN.{length, take}
 use lib.Seq.{length-take-le}
-use borrow.Author.Tests.{lt-ltb, le-ltb}
+use borrow.Author.Tests.{le-ltb, ltb-false}
 use Rattle.base.specs.Answer.{refuseIf, Verdict, accepts, refuses, first, firstNumber}
 use Rattle.base.specs.Limits.{mostCars, mostTables, mostRows}
 use Rattle.base.specs.Lists.{Each}
@@ -17,9 +17,11 @@ use Rattle.base.proofs.Lists.{length-map}
 use Rattle.table.specs.Table.{Table}
 use Rattle.table.specs.declared.Directory.{Directory}
 use Rattle.table.specs.Layout.{tablesFrom, tablesOf}
+use Rattle.table.specs.Inner.{Good}
 use Rattle.consist.proofs.Places.{map-map}
 use Rattle.reading.specs.declared.letter.Line.{Line}
 use Rattle.grammar.specs.Text.{textOf}
+use Rattle.grammar.proofs.Text.{text-append}
 use Rattle.grammar.specs.Grammar.{TrainLine, enters, asLine, carsIn, cLine, eLine, tablesLines, sheetText, CarNumbers, WholeSheet}
 use Rattle.holding.specs.Layout.{historyOf}
 use Rattle.merge_held.specs.declared.Held.{Held}
@@ -31,11 +33,11 @@ use Rattle.merge_spec.specs.Inner.{Holds, joinedTables, joinedCars, keptFrom, M
 use Rattle.merge_laws.proofs.Holding.{kept-known}
 use Rattle.merge_laws.proofs.Clear.{clear, joined-known, ordered-tables, ordered-cars, tables-length, cars-length}
 use Rattle.merge_laws.proofs.Made.{cars-alone, short-sheet}
-use Rattle.merge_lines.specs.Inner.{Fits}
-use Rattle.merge_write.specs.Inner.{Stands, carBy, tablesWith}
+use Rattle.merge_write.specs.Inner.{Stands, carBy, WithinPlace, tablesText}
 use Rattle.merge.specs.Inner.{HeldAt, textFor, SheetReady}
-use Rattle.merge.proofs.Standing.{carsOrder, cars-stand, cars-places, tablesOrder, tables-stand, tables-places}
-use Rattle.merge.proofs.Fitting.{tables-fit, tables-low, parts-length}
+use Rattle.merge.proofs.Standing.{carsOrder, cars-stand, cars-places, Tables, tablesOrder, tables-counted, tables-text, tables-within}
+use Rattle.merge.proofs.Copied.{table-copied, table-within}
+use Rattle.merge.proofs.Fitting.{parts-length}
 
 pub held-at : {f : List ℕ} {n : ℕ} {h : Held} → HeldIn f n h → HeldAt f h
 held-at i = record { few = i .few; numbers = i .numbers; places = i .places }
@@ -50,13 +52,15 @@ neither-told true y e z = absurd (omega arith)
 neither-told false true e z = absurd (omega arith)
 neither-told false false e z = (refl, refl)
 
--- Two sheets that were read whole: directory, levels, capacities and lines of each, and how many lines.
+-- Two sheets that were read whole: bytes, directory, levels, capacities and lines of each, and how many lines.
 pub record Both : Type 0 where
+  pub s : List ℕ
   pub d : Directory
   pub l : List ℕ
   pub c : List ℕ
   pub f : List ℕ
   pub n : ℕ
+  pub r : List ℕ
   pub e : Directory
   pub l′ : List ℕ
   pub c′ : List ℕ
@@ -64,8 +68,16 @@ pub record Both : Type 0 where
   pub m : ℕ
   pub first : WholeSheet (tablesOf d l c) (historyOf f n)
   pub second : WholeSheet (tablesOf e l′ c′) (historyOf g m)
+  pub first-text : s ≡ sheetText (tablesOf d l c) (historyOf f n)
+  pub second-text : r ≡ sheetText (tablesOf e l′ c′) (historyOf g m)
 
 module _ (both : Both) where
+  abbrev s : List ℕ
+  s = both .s
+
+  abbrev r : List ℕ
+  r = both .r
+
   abbrev d : Directory
   d = both .d
 
@@ -123,6 +135,31 @@ module _ (both : Both) where
   pub second-few : e .count ≤ mostTables
   second-few = omega (arith, both .second .four, length-tables (e .types) (e .rows) l′ c′ 0 (e .count))
 
+  pub good : Good d l c
+  good = record { accepted = both .first .accepted }
+
+  pub good′ : Good e l′ c′
+  good′ = record { accepted = both .second .accepted }
+
+  -- their tables, once the lengths of the arrays of types are known
+  abbrev pub tablesHeld : length (d .types) ≡ mostTables → length (e .types) ≡ mostTables → Tables
+  tablesHeld size size′ = record {
+    d = d;
+    l = l;
+    c = c;
+    s = s;
+    e = e;
+    l′ = l′;
+    c′ = c′;
+    r = r;
+    size = size;
+    size′ = size′;
+    few = first-few;
+    few′ = second-few;
+    ours = λ k h. (table-copied d l c good (historyOf f n) s (both .first-text) k h, table-within d l c good (historyOf f n) s (both .first-text) k h);
+    theirs = λ k h. (table-copied e l′ c′ good′ (historyOf g m) r (both .second-text) k h, table-within e l′ c′ good′ (historyOf g m) r (both .second-text) k h);
+  }
+
   -- the cars that they hold, and what 33 and 34 say of them, 0 where neither applies
   pub record Tested : Type 0 where
     pub a : Held
@@ -161,7 +198,7 @@ module _ (both : Both) where
       pub cars : ℕ
       pub tsize : length torder ≡ mostTables + mostTables
       pub csize : length corder ≡ mostCars + mostCars
-      pub te : take tables torder ≡ tablesOrder d l c e l′ c′ size size′ first-few second-few
+      pub te : take tables torder ≡ tablesOrder (tablesHeld size size′)
       pub tf : tables ≤ d .count + e .count
       pub ce : take cars corder ≡ carsOrder f g a b n m (tested .i) (tested .j)
       pub cf : cars ≤ a .count + b .count
@@ -188,8 +225,8 @@ module _ (both : Both) where
       abbrev es : List (List ℕ)
       es = joinedCars cs ds
 
-      tables-are : tablesWith d l c e l′ c′ torder tables ≡ ms
-      tables-are = ap (map _) (ordered .te) ∙ tables-stand d l c e l′ c′ (ordered .size) (ordered .size′) first-few second-few
+      abbrev held : Tables
+      held = tablesHeld (ordered .size) (ordered .size′)
 
       cars-are : map (carBy f g) (take cars corder) ≡ es
       cars-are = ap (map (carBy f g)) (ordered .ce) ∙ cars-stand f g a b n m (tested .i) (tested .j)
@@ -201,7 +238,7 @@ module _ (both : Both) where
       few-cars = omega (arith, (ordered .cf), tested .i .few, tested .j .few, (ordered .csize))
 
       tables-count : tables ≡ length ms
-      tables-count = sym (length-take-le tables torder few-tables) ∙ sym (length-map _ (take tables torder)) ∙ ap length tables-are
+      tables-count = sym (length-take-le tables torder few-tables) ∙ ap length (ordered .te) ∙ tables-counted held
 
       cars-count : cars ≡ length es
       cars-count = sym (length-take-le cars corder few-cars) ∙ sym (length-map (carBy f g) (take cars corder)) ∙ ap length cars-are
@@ -209,16 +246,19 @@ module _ (both : Both) where
       by-counts : merged ≡ mergedBy (first (sizeTests ms es)) ms es
       by-counts = rw (no-clash .0, no-clash .1)
 
-      -- 35 by types, and by cars
-      pub many-tables : mostTables < tables → merged ≡ refused 0 35
-      many-tables k = by-counts ∙ rw (lt-ltb mostTables (length ms) (omega (arith, tables-count)))
+      -- 35, by the numbers of tables and cars
+      pub too-many : (ltb mostTables tables || ltb mostCars cars) ≡ true → merged ≡ refused 0 35
+      too-many k = by-counts ∙ rw (← tables-count, ← cars-count, k)
 
-      pub many-cars : mostCars < cars → merged ≡ refused 0 35
-      many-cars k = by-counts ∙ rw (lt-ltb mostCars (length es) (omega (arith, cars-count)), or-true (ltb mostTables (length ms)))
+      module _ (k : (ltb mostTables tables || ltb mostCars cars) ≡ false) where
+        four : tables ≤ mostTables
+        four = ltb-false mostTables tables (neither (ltb mostTables tables) (ltb mostCars cars) k .0)
 
-      module _ (four : tables ≤ mostTables) (sixty : cars ≤ mostCars) where
+        sixty : cars ≤ mostCars
+        sixty = ltb-false mostCars cars (neither (ltb mostTables tables) (ltb mostCars cars) k .1)
+
         pub whole : merged ≡ sheet ms es
-        whole = by-counts ∙ rw (le-ltb mostTables (length ms) (omega (arith, tables-count)), le-ltb mostCars (length es) (omega (arith, cars-count)))
+        whole = by-counts ∙ rw (← tables-count, ← cars-count, k)
 
         clash-rows : rowsDiffer ts us ≡ false
         clash-rows = neither (rowsDiffer ts us) (typeElsewhere ts us cs) (neither (rowsDiffer ts us || typeElsewhere ts us cs) (typeElsewhere us ts ds) (no-clash .0) .0) .0
@@ -230,31 +270,34 @@ module _ (both : Both) where
               no-clash .1,
               sym (tables-length ts cs us ds ours theirs clash-rows),
               sym (cars-length ts cs us ds ours theirs (no-clash .1)),
-              le-ltb mostTables (length ms) (omega (arith, tables-count)),
-              le-ltb mostCars (length es) (omega (arith, cars-count)),
+              le-ltb mostTables (length ms) (omega (arith, tables-count, four)),
+              le-ltb mostCars (length es) (omega (arith, cars-count, sixty)),
             )
 
         known : Holds ms es
         known =
             joined-known ts cs us ds ours theirs (clear ts cs us ds accepted) ms es (ordered-tables ts cs us ds ours theirs clash-rows) (ordered-cars ts cs us ds ours theirs (no-clash .1))
 
-        pub text-is : textFor d l c e l′ c′ torder tables f g corder cars ≡ mergedText ms es
-        text-is =
-            ap₂ (λ (x : List Table) (y : List (List ℕ)). textOf (tablesLines x ++ (map cLine y ++ (eLine cars ∷ [])))) tables-are cars-are
-            ∙ ap₂ (λ (x : List Line) (k : ℕ). textOf (tablesLines ms ++ (x ++ (eLine k ∷ [])))) (sym (map-map asLine enters es)) (cars-count ∙ sym (cars-alone es))
+        tables-are : tablesText d s e r (take tables torder) ≡ textOf (tablesLines ms)
+        tables-are = ap (tablesText d s e r) (ordered .te) ∙ tables-text held
 
-        pub ready : (room : ℕ) → leastMergeBuffer ≤ room → SheetReady d l c e l′ c′ torder tables f g corder cars room
+        pub text-is : textFor d s e r torder tables f g corder cars ≡ mergedText ms es
+        text-is =
+            ap₂ (λ (x : List ℕ) (y : List (List ℕ)). x ++ textOf (map cLine y ++ (eLine cars ∷ []))) tables-are cars-are
+            ∙ ap₂ (λ (x : List Line) (k : ℕ). textOf (tablesLines ms) ++ textOf (x ++ (eLine k ∷ []))) (sym (map-map asLine enters es)) (cars-count ∙ sym (cars-alone es))
+            ∙ sym (text-append (tablesLines ms) (map asLine (map enters es) ++ (eLine (carsIn (map enters es)) ∷ [])))
+
+        pub ready : (room : ℕ) → leastMergeBuffer ≤ room → SheetReady d s e r torder tables f g corder cars room
         ready room h =
-            let all : length (textFor d l c e l′ c′ torder tables f g corder cars) ≤ room = omega (arith, ap length text-is, short-sheet ms es known) in
-            let parts = parts-length (tablesLines (tablesWith d l c e l′ c′ torder tables)) (map cLine (map (carBy f g) (take cars corder))) cars in
+            let all : length (textFor d s e r torder tables f g corder cars) ≤ room = omega (arith, ap length text-is, short-sheet ms es known) in
+            let parts = parts-length (tablesText d s e r (take tables torder)) (map cLine (map (carBy f g) (take cars corder))) cars in
             record {
-              first = record {
+              front = record {
                 there = few-tables;
-                places = subst (Each (λ x. placeOf x < mostTables + mostTables)) (sym (ordered .te)) (tables-places d l c e l′ c′ (ordered .size) (ordered .size′) first-few second-few);
-                rows = subst (Each (λ (t : Table). length (t .rows) ≤ mostRows)) (sym tables-are) (tables-low ms (known .accepted));
-                lines = record { each = subst (λ (x : List Table). Each Fits (tablesLines x)) (sym tables-are) (tables-fit ms (known .accepted)); space = omega (arith, parts, all) };
+                within = subst (Each (λ entry. WithinPlace d s e r (placeOf entry))) (sym (ordered .te)) (tables-within held);
+                space = omega (arith, parts, all);
               };
-              second = record {
+              rear = record {
                 there = few-cars;
                 places = subst (Each (λ x. Stands (placeOf x))) (sym (ordered .ce)) (cars-places f g a b n m (tested .i) (tested .j));
                 each = subst (Each CarNumbers) (sym cars-are) (known .each);

@@ -7,12 +7,12 @@ use Rattle.base.specs.Limits.{mostCars}
 use Rattle.base.specs.Lists.{Each}
 use Rattle.table.specs.declared.Directory.{Directory}
 use Rattle.grammar.specs.Text.{textOf}
-use Rattle.grammar.specs.Grammar.{eLine, tablesLines}
+use Rattle.grammar.specs.Grammar.{eLine}
 use Rattle.merge_spec.specs.Held.{numberOf}
 use Rattle.merge_order.specs.Inner.{entriesOf}
 use Rattle.merge_held.specs.declared.Held.{Held}
 use Rattle.merge_held.specs.Inner.{mostLines, carsAt}
-use Rattle.merge_write.specs.Inner.{carLines, CarsReady, tablesWith, TablesReady}
+use Rattle.merge_write.specs.Inner.{carLines, CarsReady, tablesText, TablesReady}
 
 abbrev pub carEntries : ℕ → Held → List ℕ
 carEntries offset h = entriesOf offset (take (h .count) (h .numbers)) (take (h .count) (h .places))
@@ -26,14 +26,14 @@ pub record HeldAt (fields : List ℕ) (h : Held) : Type 0 where
   pub numbers : take (h .count) (h .numbers) ≡ map numberOf (carsAt fields h)
   pub places : Each (λ p. p < mostLines) (take (h .count) (h .places))
 
--- the sheet that entries in two orders stand for
-module _ (d : Directory) (levels capacities : List ℕ) (e : Directory) (levels′ capacities′ tableOrder : List ℕ) (tables : ℕ) (fields fields′ carOrder : List ℕ) (cars : ℕ) where
+-- the sheet that entries in two orders stand for: bytes of tables copied from either sheet, then C lines and E
+module _ (d : Directory) (first : List ℕ) (e : Directory) (second tableOrder : List ℕ) (tables : ℕ) (fields fields′ carOrder : List ℕ) (cars : ℕ) where
   abbrev pub textFor : List ℕ
-  textFor = textOf (tablesLines (tablesWith d levels capacities e levels′ capacities′ tableOrder tables) ++ (carLines fields fields′ carOrder cars ++ (eLine cars ∷ [])))
+  textFor = tablesText d first e second (take tables tableOrder) ++ textOf (carLines fields fields′ carOrder cars ++ (eLine cars ∷ []))
 
   -- what is asked for to write it from the start of so many bytes
   pub record SheetReady (room : ℕ) : Type 0 where
-    pub first : TablesReady d levels capacities e levels′ capacities′ tableOrder tables 0 room
-    pub second : CarsReady fields fields′ carOrder cars (length (textOf (tablesLines (tablesWith d levels capacities e levels′ capacities′ tableOrder tables)))) room
+    pub front : TablesReady d first e second tableOrder tables 0 room
+    pub rear : CarsReady fields fields′ carOrder cars (length (tablesText d first e second (take tables tableOrder))) room
     pub sixty : cars ≤ mostCars
     pub space : length textFor ≤ room

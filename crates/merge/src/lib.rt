@@ -4,7 +4,7 @@ ghost use mathlib.Core.List.{[]};
 ghost use Prim.Native.Nat.{_≤_};
 ghost use lib.ListN.{length, take};
 ghost use Rattle.table.specs.Layout.{tablesOf};
-ghost use Rattle.grammar.specs.Grammar.{WholeSheet};
+ghost use Rattle.grammar.specs.Grammar.{sheetText, WholeSheet};
 ghost use Rattle.grammar.specs.Sheet.{sheetOf};
 ghost use Rattle.holding.specs.Layout.{historyOf};
 ghost use Rattle.merge_spec.specs.Merge.{holds, halfOf, leastMergeBuffer, Merges};
@@ -45,6 +45,7 @@ pub const LEAST_MERGE_BUFFER: usize = MOST_TABLES * (TABLE_BYTES + MOST_ROWS * R
 // Merges a sheet that was read into arrays with a second one.
 fn merge_second(
     out: &mut [u8],
+    first: &[u8],
     d: Directory,
     levels: &[u32; PLACES],
     capacities: &[u32; PLACES],
@@ -52,7 +53,10 @@ fn merge_second(
     n: usize,
     second: &[u8],
 ) -> MergeReply
-    requires { ⌜ (leastMergeBuffer ≤ length (now out)) × (n ≤ mostLines) × WholeSheet (tablesOf d (now levels) (now capacities)) (historyOf (now fields) n) ⌝ }
+    requires { ⌜
+        (leastMergeBuffer ≤ length (now out)) × (n ≤ mostLines) × WholeSheet (tablesOf d (now levels) (now capacities)) (historyOf (now fields) n)
+        × (now first ≡ sheetText (tablesOf d (now levels) (now capacities)) (historyOf (now fields) n))
+        ⌝ }
     ensures { λ r. ⌜
         (r ≡ replyTo (mergedOf (holds (tablesOf d (now (levels .entry)) (now (capacities .entry))) (keptFrom [] (historyOf (now (fields .entry)) n))) (halfOf (sheetOf (now (second .entry))))))
         × (now (out .exit) ≡ writtenFor (mergedOf (holds (tablesOf d (now (levels .entry)) (now (capacities .entry))) (keptFrom [] (historyOf (now (fields .entry)) n))) (halfOf (sheetOf (now (second .entry))))) (now (out .entry)))
@@ -67,11 +71,13 @@ fn merge_second(
         Outcome::RefusedAt(line, number) => read::refused(line, number),
         Outcome::Whole => read::merge_read(
             out,
+            first,
             d,
             levels,
             capacities,
             fields,
             n,
+            second,
             contents.directory,
             &levels2,
             &capacities2,
@@ -105,6 +111,7 @@ pub fn merge_sheets(first: &[u8], second: &[u8], out: &mut [u8]) -> MergeReply
         Outcome::RefusedAt(line, number) => read::refused(line, number),
         Outcome::Whole => merge_second(
             out,
+            first,
             contents.directory,
             &levels,
             &capacities,

@@ -1,10 +1,13 @@
 // Two sheets that were read into arrays become one, or are refused by 33, 34 or 35.
 ghost use mathlib.Core.Path.{_≡_};
+ghost use mathlib.Core.Bool.{_||_};
 ghost use mathlib.Core.List.{[]};
 ghost use Prim.Native.Nat.{_≤_};
+ghost use lib.Dec.{ltb};
 ghost use lib.ListN.{length};
+ghost use Rattle.base.specs.Limits.{mostCars, mostTables};
 ghost use Rattle.table.specs.Layout.{tablesOf};
-ghost use Rattle.grammar.specs.Grammar.{WholeSheet};
+ghost use Rattle.grammar.specs.Grammar.{sheetText, WholeSheet};
 ghost use Rattle.holding.specs.Layout.{historyOf};
 ghost use Rattle.merge_spec.specs.Merge.{holds, leastMergeBuffer};
 ghost use Rattle.merge_spec.specs.Inner.{keptFrom, refused, mergedOf, replyTo, writtenFor};
@@ -33,14 +36,26 @@ pub fn refused(line: u32, number: u32) -> MergeReply
     }
 }
 
+// 35: whether more than four types, or more than sixty cars, remain.
+fn too_many(tables: usize, cars: usize) -> bool
+    ensures { λ r. ⌜ r ≡ (ltb mostTables tables || ltb mostCars cars) ⌝ }
+{
+    if MOST_TABLES < tables {
+        return true;
+    }
+    MOST_CARS < cars
+}
+
 // Merges two sheets that were read into arrays, and writes the sheet made of them; or gives 33, 34 or 35, and nothing is written.
 pub fn merge_read(
     out: &mut [u8],
+    first: &[u8],
     d: Directory,
     levels: &[u32; PLACES],
     capacities: &[u32; PLACES],
     fields: &[u32; HISTORY_NUMBERS],
     n: usize,
+    second: &[u8],
     e: Directory,
     levels2: &[u32; PLACES],
     capacities2: &[u32; PLACES],
@@ -51,6 +66,8 @@ pub fn merge_read(
         (leastMergeBuffer ≤ length (now out)) × (n ≤ mostLines) × (m ≤ mostLines)
         × WholeSheet (tablesOf d (now levels) (now capacities)) (historyOf (now fields) n)
         × WholeSheet (tablesOf e (now levels2) (now capacities2)) (historyOf (now fields2) m)
+        × (now first ≡ sheetText (tablesOf d (now levels) (now capacities)) (historyOf (now fields) n))
+        × (now second ≡ sheetText (tablesOf e (now levels2) (now capacities2)) (historyOf (now fields2) m))
         ⌝ }
     ensures { λ r. ⌜
         (r ≡ replyTo (mergedOf (holds (tablesOf d (now (levels .entry)) (now (capacities .entry))) (keptFrom [] (historyOf (now (fields .entry)) n))) (holds (tablesOf e (now (levels2 .entry)) (now (capacities2 .entry))) (keptFrom [] (historyOf (now (fields2 .entry)) m)))))
@@ -78,30 +95,20 @@ pub fn merge_read(
     let mut corder = [0u64; BOTH_CARS];
     let tables = order::order_tables(&mut torder, d, e);
     let cars = order::order_cars(&mut corder, a, b);
-    if MOST_TABLES < tables {
+    if too_many(tables, cars) {
         return refused(0, 35);
     }
-    if MOST_CARS < cars {
-        return refused(0, 35);
-    }
-    let length = write::write_sheet(
+    write::write_sheet(
         out,
         &torder,
         tables,
         d,
-        levels,
-        capacities,
+        first,
         e,
-        levels2,
-        capacities2,
+        second,
         &corder,
         cars,
         fields,
         fields2,
-    );
-    MergeReply {
-        length,
-        number: 0,
-        line: 0,
-    }
+    )
 }

@@ -7,48 +7,38 @@ use crate::BOTH_CARS;
 use crate::BOTH_TABLES;
 use holding::HISTORY_NUMBERS;
 use merge_lines::end_line;
+use merge_spec::MergeReply;
 use merge_write::write_cars;
 use merge_write::write_tables;
 use printing::append_line;
 use table::Directory;
-use table::PLACES;
 
-// Writes the sheet of the tables and cars in their orders, and answers its length.
+// Writes the sheet of the tables and cars in their orders, and answers with its length. Tables are copied from the two sheets.
 pub fn write_sheet(
     out: &mut [u8],
     torder: &[u64; BOTH_TABLES],
     tables: usize,
     d: Directory,
-    levels: &[u32; PLACES],
-    capacities: &[u32; PLACES],
+    first: &[u8],
     e: Directory,
-    levels2: &[u32; PLACES],
-    capacities2: &[u32; PLACES],
+    second: &[u8],
     corder: &[u64; BOTH_CARS],
     cars: usize,
     fields: &[u32; HISTORY_NUMBERS],
     fields2: &[u32; HISTORY_NUMBERS],
-) -> usize
-    requires { ⌜
-        SheetReady d (now levels) (now capacities) e (now levels2) (now capacities2) (now torder) tables (now fields) (now fields2) (now corder) cars (length (now out))
-        ⌝ }
+) -> MergeReply
+    requires { ⌜ SheetReady d (now first) e (now second) (now torder) tables (now fields) (now fields2) (now corder) cars (length (now out)) ⌝ }
     ensures { λ r. ⌜
-        (r ≡ length (textFor d (now (levels .entry)) (now (capacities .entry)) e (now (levels2 .entry)) (now (capacities2 .entry)) (now (torder .entry)) tables (now (fields .entry)) (now (fields2 .entry)) (now (corder .entry)) cars))
-        × (now (out .exit) ≡ put (now (out .entry)) 0 (textFor d (now (levels .entry)) (now (capacities .entry)) e (now (levels2 .entry)) (now (capacities2 .entry)) (now (torder .entry)) tables (now (fields .entry)) (now (fields2 .entry)) (now (corder .entry)) cars))
+        (r ≡ record { length = length (textFor d (now (first .entry)) e (now (second .entry)) (now (torder .entry)) tables (now (fields .entry)) (now (fields2 .entry)) (now (corder .entry)) cars); number = 0; line = 0 })
+        × (now (out .exit) ≡ put (now (out .entry)) 0 (textFor d (now (first .entry)) e (now (second .entry)) (now (torder .entry)) tables (now (fields .entry)) (now (fields2 .entry)) (now (corder .entry)) cars))
         ⌝ }
 {
-    let behind = write_tables(
-        out,
-        0,
-        torder,
-        tables,
-        d,
-        levels,
-        capacities,
-        e,
-        levels2,
-        capacities2,
-    );
+    let behind = write_tables(out, 0, torder, tables, d, first, e, second);
     let last = write_cars(out, behind, corder, cars, fields, fields2);
-    append_line(out, last, end_line(cars as u32))
+    let length = append_line(out, last, end_line(cars as u32));
+    MergeReply {
+        length,
+        number: 0,
+        line: 0,
+    }
 }

@@ -1,3 +1,3 @@
 pub mod Laid
 pub mod Copying
-pub mod RowTurns
+pub mod Bytes

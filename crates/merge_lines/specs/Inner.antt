@@ -9,8 +9,6 @@ use Rattle.base.specs.Lists.{Each}
 use Rattle.reading.specs.declared.letter.Line.{Line}
 use Rattle.reading.specs.Letter.{countOf, mostFields}
 use Rattle.line.specs.Writing.{smallTo}
-use Rattle.table.specs.Table.{Table}
-use Rattle.table.specs.Layout.{rowsFrom}
 use Rattle.grammar.specs.Text.{textOf}
 
 -- a line that can be written wherever it has room
@@ -22,10 +20,6 @@ pub record Fits (l : Line) : Type 0 where
 pub record Room (ls : List Line) (at room : ℕ) : Type 0 where
   pub each : Each Fits ls
   pub space : at + length (textOf ls) ≤ room
-
--- a table of so many rows, which stand from `start` on
-abbrev pub tableFrom : ℕ → ℕ → ℕ → List ℕ → List ℕ → Table
-tableFrom kind rows start levels capacities = record { kind = kind; rows = rowsFrom levels capacities start rows }
 
 -- the lines are written over `lent` from `at` on, which leaves `left`, and the place behind them is r
 abbrev pub Appended : List Line → ℕ → List ℕ → ℕ → List ℕ → Type 0

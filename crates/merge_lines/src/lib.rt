@@ -1,7 +1,7 @@
-// Lines of a sheet made of their numbers, and a table written line by line into a lent buffer.
-mod lines; // lines.rt: T, R, C and E lines
-mod rows; // rows.rt: a table, its T line and an R line for each row
+// What a merged sheet is written of: C and E lines made of their numbers, and bytes of a sheet copied.
+mod copy; // copy.rt: bytes of a sheet copied
+mod lines; // lines.rt: C and E lines
 
+pub use copy::copy_bytes;
 pub use lines::car_line;
 pub use lines::end_line;
-pub use rows::write_table;

@@ -1,59 +1,44 @@
--- The turns of `write_tables`: a table for each entry.
+-- The turns of `write_tables`: the bytes of a table for each entry.
 use Prim.Native.Nat.{ℕ, _+_, _-_, _≤_, _<_}
-use mathlib.Core.Path.{_≡_, ap, sym, subst, _∙_}
-use mathlib.Core.List.{List, [], _∷_, _++_, map}
-use lib.ListN.{length, getD}
+use mathlib.Core.Path.{_≡_, refl, ap, ap₂, sym, subst, _∙_}
+use mathlib.Core.List.{List, [], _∷_, _++_}
+use native.Mathlib.Nat.{add-zero}
+use native.Mathlib.Omega.{arith}
+use lib.ListN.{length, getD, take, length-append}
 use Rattle.base.specs.Buffer.{put}
-use Rattle.base.specs.Limits.{mostTables, mostRows}
 use Rattle.base.specs.Lists.{Each}
-use Rattle.reading.specs.declared.letter.Line.{Line}
-use Rattle.table.specs.Table.{Table}
+use Rattle.base.proofs.Buffer.{put-nil, put-put}
 use Rattle.table.specs.declared.Directory.{Directory}
-use Rattle.grammar.specs.Text.{textOf}
-use Rattle.grammar.specs.Grammar.{tableLines, tablesLines}
-use Rattle.printing.proofs.Laid.{Laid, none-laid, all-laid}
-use Rattle.merge_lines.specs.Inner.{Fits, Room, Appended}
-use Rattle.merge_lines.proofs.Laid.{some-room, some-laid}
 use Rattle.merge_order.specs.Inner.{placeOf}
-use Rattle.merge_write.specs.Inner.{tablePlace, tablesWith, TablesReady}
 use Rattle.merge_order.proofs.Rest.{rest, rest-all, rest-next, rest-none}
+use Rattle.merge_write.specs.Inner.{textPlace, WithinPlace, tablesText, TablesReady}
 
-each-parts : {A : Type 0} (P : A → Type 0) (k l : List A) → Each P (k ++ l) → Each P k × Each P l
-each-parts P [] l h = (tt, h)
-each-parts P (a ∷ k) l (h, hs) = let p = each-parts P k l hs in ((h, p .0), p .1)
+module _ (d : Directory) (first : List ℕ) (e : Directory) (second order : List ℕ) (count : ℕ) where
+  abbrev At : ℕ → Type 0
+  At entry = WithinPlace d first e second (placeOf entry)
 
-module _ (d : Directory) (levels capacities : List ℕ) (e : Directory) (levels′ capacities′ order : List ℕ) (count : ℕ) where
-  abbrev standing : ℕ → Table
-  standing x = tablePlace d levels capacities e levels′ capacities′ (placeOf x)
+  -- the bytes from entry i on
+  abbrev left : ℕ → List ℕ
+  left i = tablesText d first e second (rest order count i)
 
-  abbrev tables : ℕ → List Table
-  tables i = map standing (rest order count i)
-
-  -- the lines from entry i on
-  abbrev left : ℕ → List Line
-  left i = tablesLines (tables i)
-
-  all-left : left 0 ≡ tablesLines (tablesWith d levels capacities e levels′ capacities′ order count)
-  all-left = ap (λ (l : List ℕ). tablesLines (map standing l)) (rest-all order count)
-
-  abbrev Low : Table → Type 0
-  Low t = length (t .rows) ≤ mostRows
+  all-left : left 0 ≡ tablesText d first e second (take count order)
+  all-left = ap (tablesText d first e second) (rest-all order count)
 
   pub record TablesLaid (lent : List ℕ) (from : ℕ) (out : List ℕ) (place i : ℕ) : Type 0 where
-    pub laid : Laid lent from (left 0) out place (left i)
-    pub each : Each Fits (left i)
-    pub rows : Each Low (tables i)
-    pub places : Each (λ x. placeOf x < mostTables + mostTables) (rest order count i)
-    pub space : from + length (textOf (left 0)) ≤ length lent
+    pub same : length out ≡ length lent
+    pub bytes : put out place (left i) ≡ put lent from (left 0)
+    pub total : place + length (left i) ≡ from + length (left 0)
+    pub within : Each At (rest order count i)
+    pub space : from + length (left 0) ≤ length lent
     pub there : count ≤ length order
 
-  pub tables-none : (lent : List ℕ) (at : ℕ) → TablesReady d levels capacities e levels′ capacities′ order count at (length lent) → TablesLaid lent at lent at 0
+  pub tables-none : (lent : List ℕ) (at : ℕ) → TablesReady d first e second order count at (length lent) → TablesLaid lent at lent at 0
   tables-none lent at r = record {
-    laid = none-laid lent at (left 0);
-    each = subst (Each Fits) (sym all-left) (r .lines .each);
-    rows = subst (λ (l : List ℕ). Each Low (map standing l)) (sym (rest-all order count)) (r .rows);
-    places = subst (Each (λ x. placeOf x < mostTables + mostTables)) (sym (rest-all order count)) (r .places);
-    space = subst (λ (ls : List Line). at + length (textOf ls) ≤ length lent) (sym all-left) (r .lines .space);
+    same = refl;
+    bytes = refl;
+    total = refl;
+    within = subst (Each At) (sym (rest-all order count)) (r .within);
+    space = subst (λ (l : List ℕ). at + length l ≤ length lent) (sym all-left) (r .space);
     there = r .there;
   }
 
@@ -61,41 +46,43 @@ module _ (d : Directory) (levels capacities : List ℕ) (e : Directory) (levels�
     abbrev entry : ℕ
     entry = getD order i 0
 
-    abbrev table : Table
-    table = standing entry
+    abbrev table : List ℕ
+    table = textPlace d first e second (placeOf entry)
 
     next : rest order count i ≡ entry ∷ rest order count (i + 1)
     next = rest-next order count i h (m .there)
 
-    each-next : Each Fits (tableLines table) × Each Fits (left (i + 1))
-    each-next = each-parts Fits (tableLines table) (left (i + 1)) (subst (λ (l : List ℕ). Each Fits (tablesLines (map standing l))) next (m .each))
+    left-next : left i ≡ table ++ left (i + 1)
+    left-next = ap (tablesText d first e second) next
 
-    rows-next : Each Low (table ∷ tables (i + 1))
-    rows-next = subst (λ (l : List ℕ). Each Low (map standing l)) next (m .rows)
+    ahead : place + (length table + length (left (i + 1))) ≡ from + length (left 0)
+    ahead = ap (λ (n : ℕ). place + n) (sym (ap length left-next ∙ length-append table (left (i + 1)))) ∙ m .total
 
-    places-next : Each (λ x. placeOf x < mostTables + mostTables) (entry ∷ rest order count (i + 1))
-    places-next = subst (Each (λ x. placeOf x < mostTables + mostTables)) next (m .places)
+    within-next : Each At (entry ∷ rest order count (i + 1))
+    within-next = subst (Each At) next (m .within)
 
-    laid-next : Laid lent from (left 0) out place (tableLines table ++ left (i + 1))
-    laid-next = subst (λ (l : List ℕ). Laid lent from (left 0) out place (tablesLines (map standing l))) next (m .laid)
+    pub table-ready : At entry × (place + length table ≤ length out)
+    table-ready = (within-next .0, omega (arith, ahead, m .space, m .same))
 
-    pub table-ready : (placeOf entry < mostTables + mostTables) × Low table × Room (tableLines table) place (length out)
-    table-ready = (places-next .0, rows-next .0, some-room lent from (left 0) (m .space) out place (tableLines table) (left (i + 1)) laid-next (each-next .0))
-
-    pub table-laid : (out′ : List ℕ) (place′ : ℕ) → out′ ≡ put out place (textOf (tableLines table)) → place′ ≡ place + length (textOf (tableLines table)) → length out′ ≡ length out
+    pub table-laid : (out′ : List ℕ) (place′ : ℕ) → out′ ≡ put out place table → place′ ≡ place + length table → length out′ ≡ length out
         → TablesLaid lent from out′ place′ (i + 1)
     table-laid out′ place′ eo ep en = record {
-      laid = some-laid lent from (left 0) (m .space) out place (tableLines table) (left (i + 1)) laid-next out′ place′ eo ep en;
-      each = each-next .1;
-      rows = rows-next .1;
-      places = places-next .1;
+      same = en ∙ m .same;
+      bytes =
+          ap₂ (λ (o : List ℕ) (a : ℕ). put o a (left (i + 1))) eo ep
+          ∙ put-put out place table (left (i + 1)) (omega (arith, ahead, m .space, m .same))
+          ∙ ap (put out place) (sym left-next)
+          ∙ m .bytes;
+      total = omega (arith, ahead, ep);
+      within = within-next .1;
       space = m .space;
       there = m .there;
     }
 
   pub tables-done : (lent : List ℕ) (from : ℕ) (out : List ℕ) (place i : ℕ) → TablesLaid lent from out place i → count ≤ i
-      → Appended (tablesLines (tablesWith d levels capacities e levels′ capacities′ order count)) from lent place out
+      → (place ≡ from + length (tablesText d first e second (take count order))) × (out ≡ put lent from (tablesText d first e second (take count order)))
   tables-done lent from out place i m h =
-      let none : left i ≡ [] = ap (λ (l : List ℕ). tablesLines (map standing l)) (rest-none order count i h) in
-      let f = all-laid (subst (λ (ls : List Line). Laid lent from (left 0) out place ls) none (m .laid)) in
-      (f .0 ∙ ap (λ (ls : List Line). from + length (textOf ls)) all-left, f .1 ∙ ap (λ (ls : List Line). put lent from (textOf ls)) all-left)
+      let none : left i ≡ [] = ap (tablesText d first e second) (rest-none order count i h) in (
+        sym (add-zero place) ∙ ap (λ (l : List ℕ). place + length l) (sym none) ∙ m .total ∙ ap (λ (l : List ℕ). from + length l) all-left,
+        sym (put-nil out place) ∙ ap (put out place) (sym none) ∙ m .bytes ∙ ap (put lent from) all-left,
+      )

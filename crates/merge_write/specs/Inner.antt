@@ -1,19 +1,18 @@
--- The cars and the tables that entries stand for, of the first sheet or of the second; it is no part of what a merged sheet means.
-use Prim.Native.Nat.{ℕ, _+_, _-_, _%_, _≤_, _<_}
+-- The cars, and the bytes of the tables, that entries stand for, of the first sheet or of the second; it is no part of what a merged sheet means.
+use Prim.Native.Nat.{ℕ, zero, suc, _+_, _-_, _*_, _%_, _≤_, _<_}
 use mathlib.Core.Bool.{cond}
-use mathlib.Core.List.{List, map}
+use mathlib.Core.List.{List, [], _∷_, _++_, map}
 use lib.Dec.{ltb}
-use lib.ListN.{length, take}
+use lib.ListN.{length, getD, take, drop}
 use Rattle.base.specs.Limits.{mostTables, mostRows, mostCarLines, mostStrikes}
 use Rattle.base.specs.Lists.{Each}
+use Rattle.reading.specs.declared.letter.Letter.the-variants.{Table as T, Row as R}
 use Rattle.reading.specs.declared.letter.Line.{Line}
-use Rattle.table.specs.Table.{Table}
+use Rattle.reading.specs.Letter.{widthOf}
 use Rattle.table.specs.declared.Directory.{Directory}
-use Rattle.table.specs.Layout.{tableAt}
 use Rattle.grammar.specs.Text.{textOf}
-use Rattle.grammar.specs.Grammar.{cLine, CarNumbers, tablesLines}
+use Rattle.grammar.specs.Grammar.{cLine, CarNumbers}
 use Rattle.merge_order.specs.Inner.{halfSpan, placeOf, carIn}
-use Rattle.merge_lines.specs.Inner.{Room}
 
 -- Cars.
 
@@ -44,19 +43,39 @@ pub record CarsReady (first second order : List ℕ) (count at room : ℕ) : Typ
 
 -- Tables.
 
--- the table at a place: the first sheet's from 0 on, the second's from 4 on
-abbrev pub tablePlace : Directory → List ℕ → List ℕ → Directory → List ℕ → List ℕ → ℕ → Table
-tablePlace d levels capacities e levels′ capacities′ p =
-    cond (ltb p mostTables) (tableAt (d .types) (d .rows) levels capacities p) (tableAt (e .types) (e .rows) levels′ capacities′ (p - mostTables))
+-- how many bytes table k of a sheet has, its T line and its R lines, and how many stand before it
+abbrev pub tableBytes : List ℕ → ℕ → ℕ
+tableBytes rows k = widthOf T + widthOf R * getD rows k 0
 
--- the tables of the first `count` entries
-abbrev pub tablesWith : Directory → List ℕ → List ℕ → Directory → List ℕ → List ℕ → List ℕ → ℕ → List Table
-tablesWith d levels capacities e levels′ capacities′ order count =
-    map (λ entry. tablePlace d levels capacities e levels′ capacities′ (placeOf entry)) (take count order)
+abbrev pub startOf : List ℕ → ℕ → ℕ
+startOf rows zero = 0
+startOf rows (suc k) = startOf rows k + tableBytes rows k
 
--- what is asked for to write them from `at` on in so many bytes
-pub record TablesReady (d : Directory) (levels capacities : List ℕ) (e : Directory) (levels′ capacities′ order : List ℕ) (count at room : ℕ) : Type 0 where
+-- those bytes
+abbrev pub tableText : Directory → List ℕ → ℕ → List ℕ
+tableText d text k = take (tableBytes (d .rows) k) (drop (startOf (d .rows) k) text)
+
+-- table k ends within the text, and it and those before it have no more rows than a table may
+pub record Within (d : Directory) (text : List ℕ) (k : ℕ) : Type 0 where
+  pub rows : (j : ℕ) → j ≤ k → getD (d .rows) j 0 ≤ mostRows
+  pub ends : startOf (d .rows) k + tableBytes (d .rows) k ≤ length text
+
+-- of the table at a place, the first sheet's from 0 on, the second's from 4 on
+abbrev pub textPlace : Directory → List ℕ → Directory → List ℕ → ℕ → List ℕ
+textPlace d first e second p = cond (ltb p mostTables) (tableText d first p) (tableText e second (p - mostTables))
+
+pub record WithinPlace (d : Directory) (first : List ℕ) (e : Directory) (second : List ℕ) (p : ℕ) : Type 0 where
+  pub place : p < mostTables + mostTables
+  pub ours : p < mostTables → Within d first p
+  pub theirs : mostTables ≤ p → Within e second (p - mostTables)
+
+-- of all tables of entries, one after another
+abbrev pub tablesText : Directory → List ℕ → Directory → List ℕ → List ℕ → List ℕ
+tablesText d first e second [] = []
+tablesText d first e second (entry ∷ order) = textPlace d first e second (placeOf entry) ++ tablesText d first e second order
+
+-- what is asked for to copy those of the first `count` entries to the place `at` of so many bytes
+pub record TablesReady (d : Directory) (first : List ℕ) (e : Directory) (second order : List ℕ) (count at room : ℕ) : Type 0 where
   pub there : count ≤ length order
-  pub places : Each (λ entry. placeOf entry < mostTables + mostTables) (take count order)
-  pub rows : Each (λ (t : Table). length (t .rows) ≤ mostRows) (tablesWith d levels capacities e levels′ capacities′ order count)
-  pub lines : Room (tablesLines (tablesWith d levels capacities e levels′ capacities′ order count)) at room
+  pub within : Each (λ entry. WithinPlace d first e second (placeOf entry)) (take count order)
+  pub space : at + length (tablesText d first e second (take count order)) ≤ room

@@ -1,102 +1,95 @@
-// The tables of a sheet made of two, in the order of their entries.
-ghost use Prim.Native.Nat.{_+_, _≤_, _<_};
-ghost use lib.ListN.{length};
+// The tables of a sheet made of two, copied from the sheets in the order of their entries.
+ghost use mathlib.Core.Path.{_≡_};
+ghost use Prim.Native.Nat.{ℕ, _+_, _≤_, _<_};
+ghost use lib.ListN.{length, getD, take};
+ghost use Rattle.base.specs.Buffer.{put};
 ghost use Rattle.base.specs.Limits.{mostTables, mostRows};
-ghost use Rattle.grammar.specs.Grammar.{tableLines, tablesLines};
-ghost use Rattle.merge_lines.specs.Inner.{Room, Appended};
-ghost use Rattle.merge_write.specs.Inner.{tablePlace, tablesWith, TablesReady};
-use base::MOST_ROWS;
+ghost use Rattle.merge_write.specs.Inner.{tableBytes, startOf, tableText, Within, textPlace, WithinPlace, tablesText, TablesReady};
 use base::MOST_TABLES;
-use merge_lines::write_table;
+use merge_lines::copy_bytes;
 use merge_order::SPAN;
+use scanning::ROW_BYTES;
+use scanning::TABLE_BYTES;
 use table::Directory;
-use table::PLACES;
 
-// Writes the table at a place, the first sheet's up to 3 and the second's from 4 on, and answers the place behind it.
-fn write_by(
+// How many bytes of a sheet stand before its table k, by the numbers of rows.
+fn table_start(rows: &[u32; MOST_TABLES], k: usize) -> usize
+    requires { ⌜ (k < mostTables) × ((j : ℕ) → j ≤ k → getD (now rows) j 0 ≤ mostRows) ⌝ }
+    ensures { λ r. ⌜ r ≡ startOf (now (rows .entry)) k ⌝ }
+{
+    let mut start: usize = 0;
+    let mut j: usize = 0;
+    while j < k {
+        start += TABLE_BYTES + ROW_BYTES * rows[j] as usize;
+        j += 1;
+    }
+    start
+}
+
+// Copies table k of a sheet to the place `at`, and answers the place behind it.
+fn copy_table(out: &mut [u8], at: usize, d: Directory, text: &[u8], k: usize) -> usize
+    requires { ⌜ (k < mostTables) × Within d (now text) k × (at + tableBytes (d .rows) k ≤ length (now out)) ⌝ }
+    ensures { λ r. ⌜
+        (r ≡ at + tableBytes (d .rows) k) × (now (out .exit) ≡ put (now (out .entry)) at (tableText d (now (text .entry)) k))
+        ⌝ }
+{
+    let rows = d.rows;
+    let start = table_start(&rows, k);
+    copy_bytes(
+        out,
+        at,
+        text,
+        start,
+        TABLE_BYTES + ROW_BYTES * rows[k] as usize,
+    )
+}
+
+// Copies the table at a place, the first sheet's up to 3 and the second's from 4 on, and answers the place behind it.
+fn copy_by(
     out: &mut [u8],
     at: usize,
     p: usize,
     d: Directory,
-    levels: &[u32; PLACES],
-    capacities: &[u32; PLACES],
+    first: &[u8],
     e: Directory,
-    levels2: &[u32; PLACES],
-    capacities2: &[u32; PLACES],
+    second: &[u8],
 ) -> usize
     requires { ⌜
-        (p < mostTables + mostTables)
-        × (length (tablePlace d (now levels) (now capacities) e (now levels2) (now capacities2) p .rows) ≤ mostRows)
-        × Room (tableLines (tablePlace d (now levels) (now capacities) e (now levels2) (now capacities2) p)) at (length (now out))
+        WithinPlace d (now first) e (now second) p × (at + length (textPlace d (now first) e (now second) p) ≤ length (now out))
         ⌝ }
     ensures { λ r. ⌜
-        Appended
-        (tableLines (tablePlace d (now (levels .entry)) (now (capacities .entry)) e (now (levels2 .entry)) (now (capacities2 .entry)) p))
-        at (now (out .entry)) r (now (out .exit))
+        (r ≡ at + length (textPlace d (now (first .entry)) e (now (second .entry)) p))
+        × (now (out .exit) ≡ put (now (out .entry)) at (textPlace d (now (first .entry)) e (now (second .entry)) p))
         ⌝ }
 {
     if p < MOST_TABLES {
-        let types = d.types;
-        let rows = d.rows;
-        return write_table(
-            out,
-            at,
-            types[p],
-            rows[p],
-            MOST_ROWS * p,
-            levels,
-            capacities,
-        );
+        return copy_table(out, at, d, first, p);
     }
-    let q = p - MOST_TABLES;
-    let types2 = e.types;
-    let rows2 = e.rows;
-    write_table(
-        out,
-        at,
-        types2[q],
-        rows2[q],
-        MOST_ROWS * q,
-        levels2,
-        capacities2,
-    )
+    copy_table(out, at, e, second, p - MOST_TABLES)
 }
 
-// Writes the tables of the first `count` entries from `at` on, and answers the place behind them.
+// Copies the tables of the first `count` entries to the place `at`, and answers the place behind them.
 pub fn write_tables(
     out: &mut [u8],
     at: usize,
     order: &[u64],
     count: usize,
     d: Directory,
-    levels: &[u32; PLACES],
-    capacities: &[u32; PLACES],
+    first: &[u8],
     e: Directory,
-    levels2: &[u32; PLACES],
-    capacities2: &[u32; PLACES],
+    second: &[u8],
 ) -> usize
-    requires { ⌜ TablesReady d (now levels) (now capacities) e (now levels2) (now capacities2) (now order) count at (length (now out)) ⌝ }
+    requires { ⌜ TablesReady d (now first) e (now second) (now order) count at (length (now out)) ⌝ }
     ensures { λ r. ⌜
-        Appended
-        (tablesLines (tablesWith d (now (levels .entry)) (now (capacities .entry)) e (now (levels2 .entry)) (now (capacities2 .entry)) (now (order .entry)) count))
-        at (now (out .entry)) r (now (out .exit))
+        (r ≡ at + length (tablesText d (now (first .entry)) e (now (second .entry)) (take count (now (order .entry)))))
+        × (now (out .exit) ≡ put (now (out .entry)) at (tablesText d (now (first .entry)) e (now (second .entry)) (take count (now (order .entry)))))
         ⌝ }
 {
     let mut place = at;
     let mut i: usize = 0;
     while i < count {
         let p = (order[i] % SPAN) as usize;
-        place = write_by(
-            out,
-            place,
-            p,
-            d,
-            levels,
-            capacities,
-            e,
-            levels2,
-            capacities2,
-        );
+        place = copy_by(out, place, p, d, first, e, second);
         i += 1;
     }
     place

@@ -10,7 +10,7 @@ use Rattle.holding.specs.Layout.{historyOf}
 use Rattle.merge_spec.specs.Merge.{Half, holds, halfOf}
 use Rattle.merge_spec.specs.Inner.{keptFrom, Merged, mergedOf, replyTo, writtenFor}
 use Rattle.merge_held.specs.Inner.{mostLines}
-use Rattle.merge.proofs.Answers.{refused-read, whole-good, whole-few, whole-half}
+use Rattle.merge.proofs.Answers.{refused-read, whole-good, whole-text, whole-few, whole-half}
 use Rattle.merge.proofs.merge_second.Statement.{statement}
 use Rattle.merge.proofs.merge_second.Tie as tie
 
@@ -34,7 +34,7 @@ add-merge-read : tie.Need-add-merge-read
 add-merge-read c =
     let o = c .before .before .before .before .before in
     let r = o .before .before in
-    let s = r .before .before .before .before .before .before in
+    let s = r .before .before .before .before .before .before .before in
     let few = whole-few (now (s .args .second)) (r .read-sheet .result) (r .read-sheet .last .1 .0) (r .read-sheet .last .1 .1 .0) (r .read-sheet .last .1 .1 .1 .0) (r .read-sheet .ensures .0) (o .enum-told .given .1) in
     search (needs, few)
 
@@ -42,19 +42,21 @@ merge-read-requires : tie.Need-merge-read-requires
 merge-read-requires c κs =
     let o = c .before .before .before .before .before in
     let r = o .before .before in
-    let s = r .before .before .before .before .before .before in (
+    let s = r .before .before .before .before .before .before .before in (
       s .pre .0,
       s .pre .1,
       whole-few (now (s .args .second)) (r .read-sheet .result) (r .read-sheet .last .1 .0) (r .read-sheet .last .1 .1 .0) (r .read-sheet .last .1 .1 .1 .0) (r .read-sheet .ensures .0) (o .enum-told .given .1),
       s .pre .2,
       whole-good (now (s .args .second)) (r .read-sheet .result) (r .read-sheet .last .1 .0) (r .read-sheet .last .1 .1 .0) (r .read-sheet .last .1 .1 .1 .0) (r .read-sheet .ensures .0) (o .enum-told .given .1),
+      s .pre .3,
+      whole-text (now (s .args .second)) (r .read-sheet .result) (r .read-sheet .last .1 .0) (r .read-sheet .last .1 .1 .0) (r .read-sheet .last .1 .1 .1 .0) (r .read-sheet .ensures .0) (o .enum-told .given .1),
     )
 
 returns : tie.Need-returns
 returns c =
     let o = c .before .before in
     let r = o .before .before in
-    let s = r .before .before .before .before .before .before in
+    let s = r .before .before .before .before .before .before .before in
     let q =
     ap (λ (h : Half). mergedOf (ours s) h)
     (ap halfOf (refused-read (now (s .args .second)) (r .read-sheet .result) (r .read-sheet .last .1 .0) (r .read-sheet .last .1 .1 .0) (r .read-sheet .last .1 .1 .1 .0) (r .read-sheet .ensures .0) (o .outcome .given .1))) in
@@ -68,7 +70,7 @@ returns-2 c =
     let x = c .before .before in
     let o = x .before .before .before .before .before .before in
     let r = o .before .before in
-    let s = r .before .before .before .before .before .before in
+    let s = r .before .before .before .before .before .before .before in
     let q =
     ap (λ (h : Half). mergedOf (ours s) h)
     (whole-half (now (s .args .second)) (r .read-sheet .result) (r .read-sheet .last .1 .0) (r .read-sheet .last .1 .1 .0) (r .read-sheet .last .1 .1 .1 .0) (r .read-sheet .ensures .0) (o .enum-told .given .1)) in

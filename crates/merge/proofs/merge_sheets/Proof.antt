@@ -17,7 +17,7 @@ use Rattle.merge_laws.specs.Pair.{PairExample}
 use Rattle.merge_laws.proofs.Made.{made, low}
 use Rattle.merge_laws.proofs.Laws.{merge-laws}
 use Rattle.merge_laws.proofs.AgainstPair.{pair-example}
-use Rattle.merge.proofs.Answers.{refused-read, whole-good, whole-few, whole-half, too-short, answered}
+use Rattle.merge.proofs.Answers.{refused-read, whole-good, whole-text, whole-few, whole-half, too-short, answered}
 use Rattle.merge.proofs.merge_sheets.Statement.{statement}
 use Rattle.merge.proofs.merge_sheets.Tie as tie
 
@@ -65,6 +65,7 @@ merge-second-requires c κs =
       e1 .if1 .left,
       whole-few (now (s .args .first)) (r .read-sheet .result) (r .read-sheet .last .1 .0) (r .read-sheet .last .1 .1 .0) (r .read-sheet .last .1 .1 .1 .0) (r .read-sheet .ensures .0) (o .enum-told .given .1),
       whole-good (now (s .args .first)) (r .read-sheet .result) (r .read-sheet .last .1 .0) (r .read-sheet .last .1 .1 .0) (r .read-sheet .last .1 .1 .1 .0) (r .read-sheet .ensures .0) (o .enum-told .given .1),
+      whole-text (now (s .args .first)) (r .read-sheet .result) (r .read-sheet .last .1 .0) (r .read-sheet .last .1 .1 .0) (r .read-sheet .last .1 .1 .1 .0) (r .read-sheet .ensures .0) (o .enum-told .given .1),
     )
 
 returns-2 : tie.Need-returns-2

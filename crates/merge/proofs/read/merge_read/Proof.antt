@@ -1,10 +1,11 @@
 -- `merge::read::merge_read` meets its contract: 33 or 34, 35, or the sheet written.
 use Prim.Native.Nat.{ℕ}
 use mathlib.Core.Path.{_≡_, refl, ap, sym, _∙_}
+use mathlib.Core.List.{List}
 use lib.ListN.{length}
 use Rattle.base.specs.Buffer.{put}
 use Rattle.merge_spec.specs.Inner.{Merged, replyTo, writtenFor}
-use Rattle.merge.proofs.Whole.{Both, Tested, Ordered, held-at, first-few, second-few, clashing, many-tables, many-cars, whole, text-is, ready}
+use Rattle.merge.proofs.Whole.{Both, Tested, Ordered, held-at, first-few, second-few, clashing, too-many, whole, text-is, ready}
 use denote.Ref.{now}
 use native.Mathlib.Omega.{arith}
 use borrow.Author.Needs.{needs}
@@ -14,11 +15,13 @@ use Rattle.merge.proofs.read.merge_read.Tie as tie
 -- the two sheets, the cars that they hold with what 33 and 34 say, and tables and cars in order
 abbrev both : tie.Start → Both
 both s = record {
+  s = now (s .args .first);
   d = s .args .d;
   l = now (s .args .levels);
   c = now (s .args .capacities);
   f = now (s .args .fields);
   n = s .args .n;
+  r = now (s .args .second);
   e = s .args .e;
   l′ = now (s .args .levels2);
   c′ = now (s .args .capacities2);
@@ -26,9 +29,11 @@ both s = record {
   m = s .args .m;
   first = s .pre .3;
   second = s .pre .4;
+  first-text = s .pre .5;
+  second-text = s .pre .6;
 }
 
-abbrev tested : (q : tie.After-conflict) → Tested (both (q .before .before .before .before))
+abbrev tested : (q : tie.After-conflict) → Tested (both (q .before .before .before .before .before .before))
 tested q = record {
   a = q .before .before .held-cars .result;
   b = q .before .held-cars2 .result;
@@ -38,7 +43,7 @@ tested q = record {
   told = q .conflict .ensures;
 }
 
-abbrev ordered : (v : tie.After-order-cars) → let q = v .before .before .before .before .before in Ordered (both (q .before .before .before .before)) (tested q)
+abbrev ordered : (v : tie.After-order-cars) → let q = v .before .before .before .before .before in Ordered (both (q .before .before .before .before .before .before)) (tested q)
 ordered v =
     let o = v .before .before in
     let e1 = o .before .before in
@@ -67,7 +72,7 @@ held-cars-requires-2 c κs = search needs
 conflict-requires : tie.Need-conflict-requires
 conflict-requires c κs =
     let h1 = c .before in
-    let s = h1 .before .before in
+    let s = h1 .before .before .before .before in
     (record { accepted = s .pre .3 .accepted }, record { accepted = s .pre .4 .accepted }, held-at (h1 .held-cars .ensures), held-at (c .held-cars2 .ensures))
 
 refused-requires : tie.Need-refused-requires
@@ -78,7 +83,7 @@ returns c =
     let q = c .before .before in
     let h2 = q .before in
     let h1 = h2 .before in
-    let s = h1 .before .before in
+    let s = h1 .before .before .before .before in
     let k = clashing (both s) (tested q) (c .before .if1 .taken) in
     (c .refused .ensures ∙ sym (ap replyTo k), sym (ap (λ (x : Merged). writtenFor x (now (s .args .out))) k))
 
@@ -87,7 +92,7 @@ order-tables-requires c κs =
     let q = c .before .before in
     let h2 = q .before in
     let h1 = h2 .before in
-    let s = h1 .before .before in
+    let s = h1 .before .before .before .before in
     (refl, first-few (both s), second-few (both s))
 
 order-cars-requires : tie.Need-order-cars-requires
@@ -97,67 +102,45 @@ order-cars-requires c κs =
     let h1 = h2 .before in
     (refl, h1 .held-cars .ensures .few, h2 .held-cars2 .ensures .few)
 
+too-many-requires : tie.Need-too-many-requires
+too-many-requires c κs = search needs
+
 refused-requires-2 : tie.Need-refused-requires-2
 refused-requires-2 c κs = search needs
 
 returns-2 : tie.Need-returns-2
 returns-2 c =
-    let v = c .before .before in
-    let o = v .before .before in
-    let e1 = o .before .before in
-    let q = e1 .before in
-    let h2 = q .before in
-    let h1 = h2 .before in
-    let s = h1 .before .before in
-    let k = many-tables (both s) (tested q) (ordered v) (c .before .if2 .taken) in
+    let w = c .before .before in
+    let v = w .before in
+    let q = v .before .before .before .before .before in
+    let s = q .before .before .before .before .before .before in
+    let k = too-many (both s) (tested q) (ordered v) (sym (w .too-many .ensures) ∙ c .before .if2 .taken) in
     (c .refused2 .ensures ∙ sym (ap replyTo k), sym (ap (λ (x : Merged). writtenFor x (now (s .args .out))) k))
-
-refused-requires-3 : tie.Need-refused-requires-3
-refused-requires-3 c κs = search needs
-
-returns-3 : tie.Need-returns-3
-returns-3 c =
-    let v = c .before .before .before in
-    let o = v .before .before in
-    let e1 = o .before .before in
-    let q = e1 .before in
-    let h2 = q .before in
-    let h1 = h2 .before in
-    let s = h1 .before .before in
-    let k = many-cars (both s) (tested q) (ordered v) (c .before .if3 .taken) in
-    (c .refused3 .ensures ∙ sym (ap replyTo k), sym (ap (λ (x : Merged). writtenFor x (now (s .args .out))) k))
 
 write-sheet-requires : tie.Need-write-sheet-requires
 write-sheet-requires c κs =
-    let e3 = c .before .before .before in
-    let e2 = e3 .before in
-    let v = e2 .before in
-    let o = v .before .before in
-    let e1 = o .before .before in
-    let q = e1 .before in
-    let h2 = q .before in
-    let h1 = h2 .before in
-    let s = h1 .before .before in
-    ready (both s) (tested q) (ordered v) (e2 .if2 .left) (e3 .if3 .left) (length (now (s .args .out))) (s .pre .0)
+    let e2 = c .before .before .before in
+    let w = e2 .before in
+    let v = w .before in
+    let q = v .before .before .before .before .before in
+    let s = q .before .before .before .before .before .before in
+    ready (both s) (tested q) (ordered v) (sym (w .too-many .ensures) ∙ e2 .if2 .left) (length (now (s .args .out))) (s .pre .0)
 
 same-length : tie.Need-same-length
 same-length c = search needs
 
-returns-4 : tie.Need-returns-4
-returns-4 c =
+returns-3 : tie.Need-returns-3
+returns-3 c =
     let x = c .before .before in
-    let e3 = x .before .before .before .before in
-    let e2 = e3 .before in
-    let v = e2 .before in
-    let o = v .before .before in
-    let e1 = o .before .before in
-    let q = e1 .before in
-    let h2 = q .before in
-    let h1 = h2 .before in
-    let s = h1 .before .before in
-    let k = whole (both s) (tested q) (ordered v) (e2 .if2 .left) (e3 .if3 .left) in
-    let t = text-is (both s) (tested q) (ordered v) (e2 .if2 .left) (e3 .if3 .left) in (
-      ap (λ (n : ℕ). record { length = n; number = 0; line = 0 }) (x .write-sheet .ensures .0 ∙ ap length t) ∙ sym (ap replyTo k),
+    let e2 = x .before .before .before .before in
+    let w = e2 .before in
+    let v = w .before in
+    let q = v .before .before .before .before .before in
+    let s = q .before .before .before .before .before .before in
+    let few = sym (w .too-many .ensures) ∙ e2 .if2 .left in
+    let k = whole (both s) (tested q) (ordered v) few in
+    let t = text-is (both s) (tested q) (ordered v) few in (
+      x .write-sheet .ensures .0 ∙ ap (λ (l : List ℕ). record { length = length l; number = 0; line = 0 }) t ∙ sym (ap replyTo k),
       x .write-sheet .ensures .1 ∙ ap (put (now (s .args .out)) 0) t ∙ sym (ap (λ (y : Merged). writtenFor y (now (s .args .out))) k),
     )
 
@@ -172,10 +155,9 @@ merge-read-spec =
     returns
     order-tables-requires
     order-cars-requires
+    too-many-requires
     refused-requires-2
     returns-2
-    refused-requires-3
-    returns-3
     write-sheet-requires
     same-length
-    returns-4)
+    returns-3)

@@ -1,4 +1,4 @@
--- `merge_write::write_tables` meets its contract: each turn writes a table.
+-- `merge_write::write_tables` meets its contract: each turn copies a table.
 use Prim.Native.Nat.{_-_}
 use Rattle.merge_write.proofs.TableTurns.{TablesLaid, tables-none, table-ready, table-laid, tables-done}
 use borrow.Author.Needs.{needs}
@@ -7,21 +7,21 @@ use Rattle.merge_write.proofs.tables.write_tables.Statement.{statement}
 use Rattle.merge_write.proofs.tables.write_tables.Tie as tie
 
 abbrev Inv-loop : tie.InvT-loop
-Inv-loop out₀ at order count d levels capacities e levels2 capacities2 place₀ i₀ out place i =
-    TablesLaid d levels capacities e levels2 capacities2 order count out₀ place₀ out place i
+Inv-loop out₀ at order count d first e second place₀ i₀ out place i =
+    TablesLaid d first e second order count out₀ place₀ out place i
 
 abbrev μ-loop : tie.MeasureT-loop
-μ-loop out₀ at order count d levels capacities e levels2 capacities2 place₀ i₀ out place i = count - i
+μ-loop out₀ at order count d first e second place₀ i₀ out place i = count - i
 
 -- where the function began
 abbrev began : tie.At-loop Inv-loop μ-loop → tie.Start Inv-loop μ-loop
-began l = l .before .before .before
+began l = l .before .before .before .before .before
 
 loop-holds : tie.Need-loop-holds Inv-loop μ-loop
 loop-holds c =
-    let s = c .before .before in
+    let s = c .before .before .before .before in
     let a = s .args in
-    tables-none (a .d) (now (a .levels)) (now (a .capacities)) (a .e) (now (a .levels2)) (now (a .capacities2)) (now (a .order)) (a .count)
+    tables-none (a .d) (now (a .first)) (a .e) (now (a .second)) (now (a .order)) (a .count)
     (now (a .out)) (a .at) (s .pre)
 
 mul-p : tie.Need-mul-p Inv-loop μ-loop
@@ -30,12 +30,12 @@ mul-p c = search needs
 shared-slice-read-p : tie.Need-shared-slice-read-p Inv-loop μ-loop
 shared-slice-read-p c = search needs
 
-write-by-requires : tie.Need-write-by-requires Inv-loop μ-loop
-write-by-requires c κs =
+copy-by-requires : tie.Need-copy-by-requires Inv-loop μ-loop
+copy-by-requires c κs =
     let t = c .before .before in
     let l = t .before in
     let a = began l .args in
-    table-ready (a .d) (now (a .levels)) (now (a .capacities)) (a .e) (now (a .levels2)) (now (a .capacities2)) (now (a .order)) (a .count)
+    table-ready (a .d) (now (a .first)) (a .e) (now (a .second)) (now (a .order)) (a .count)
     (now (a .out)) (a .at) (l .loop .out) (l .loop .place) (l .loop .i) (l .loop .inv) (t .loop-test .taken)
 
 add-i : tie.Need-add-i Inv-loop μ-loop
@@ -50,18 +50,18 @@ loop-again c =
     let t = p .before .before .before in
     let l = t .before in
     let a = began l .args in
-    table-laid (a .d) (now (a .levels)) (now (a .capacities)) (a .e) (now (a .levels2)) (now (a .capacities2)) (now (a .order)) (a .count)
+    table-laid (a .d) (now (a .first)) (a .e) (now (a .second)) (now (a .order)) (a .count)
     (now (a .out)) (a .at) (l .loop .out) (l .loop .place) (l .loop .i) (l .loop .inv) (t .loop-test .taken)
-    (p .write-by .last .0) (p .write-by .result) (p .write-by .ensures .1) (p .write-by .ensures .0) (p .write-by .kept .0)
+    (p .copy-by .last .0) (p .copy-by .result) (p .copy-by .ensures .1) (p .copy-by .ensures .0) (p .copy-by .kept .0)
 
 same-length : tie.Need-same-length Inv-loop μ-loop
-same-length c = c .before .loop .inv .laid .same
+same-length c = c .before .loop .inv .same
 
 returns : tie.Need-returns Inv-loop μ-loop
 returns c =
     let l = c .before in
     let a = began l .args in
-    tables-done (a .d) (now (a .levels)) (now (a .capacities)) (a .e) (now (a .levels2)) (now (a .capacities2)) (now (a .order)) (a .count)
+    tables-done (a .d) (now (a .first)) (a .e) (now (a .second)) (now (a .order)) (a .count)
     (now (a .out)) (a .at) (l .loop .out) (l .loop .place) (l .loop .i) (l .loop .inv) (c .loop-test .left)
 
 pub write-tables-spec : {M : Type 1} → statement M
@@ -73,7 +73,7 @@ write-tables-spec =
     loop-holds
     mul-p
     shared-slice-read-p
-    write-by-requires
+    copy-by-requires
     add-i
     loop-less
     loop-again
