@@ -3,12 +3,11 @@ use Prim.Native.Nat.{ℕ, _+_, _≤_, _<_}
 use mathlib.Core.Path.{_≡_, refl, ap, sym, subst, _∙_}
 use mathlib.Core.Bool.{Bool, cond}
 use mathlib.Core.List.{List, []}
-use native.Mathlib.Omega.{arith}
 use lib.ListN.{length}
-use borrow.Author.Tests.{lt-ltb, le-ltb}
+use borrow.Author.Tests.{lt-ltb}
 use Rattle.table.specs.Layout.{tablesOf}
 use Rattle.grammar.specs.Grammar.{sheetText, WholeSheet}
-use Rattle.grammar.specs.Sheet.{SheetRead, refusedAt, whole, sheetOf}
+use Rattle.grammar.specs.Sheet.{refusedAt, whole, sheetOf}
 use Rattle.grammar.proofs.ByGrammar.{by-grammar}
 use Rattle.holding.specs.declared.Outcome.{Outcome}
 use Rattle.holding.specs.declared.Outcome.the-variants.{Whole, RefusedAt}
@@ -17,7 +16,7 @@ use Rattle.holding.proofs.Arrays.{few-lines}
 use Rattle.sheet.specs.declared.Contents.{Contents}
 use Rattle.sheet.specs.Layout.{readIn}
 use Rattle.merge_spec.specs.declared.MergeReply.{MergeReply}
-use Rattle.merge_spec.specs.Merge.{Half, holds, halfOf, Merging, refused, mergingOf, leastMergeBuffer, Done, Merges}
+use Rattle.merge_spec.specs.Merge.{holds, halfOf, Merging, refused, mergingOf, leastMergeBuffer, Done, Merges}
 use Rattle.merge_spec.specs.Inner.{keptFrom, mergedOf, replyTo, writtenFor}
 use Rattle.merge_held.specs.Inner.{mostLines}
 use Rattle.merge_laws.proofs.Kept.{held-on-sheet}

@@ -1,8 +1,8 @@
 -- 33 and 34 by their tests, as the code makes them.
 use Prim.Native.Nat.{ℕ}
-use mathlib.Core.Path.{_≡_, refl, ap, ap₂, sym, _∙_}
+use mathlib.Core.Path.{_≡_, ap₂, sym}
 use mathlib.Core.Bool.{Bool, true, false, _||_}
-use mathlib.Core.List.{List, [], _∷_, map}
+use mathlib.Core.List.{List, [], _∷_}
 use lib.ListN.{take}
 use Rattle.base.specs.Answer.{refuseIf, firstNumber}
 use Rattle.base.specs.Numbers.{any, member}

@@ -7,7 +7,7 @@ use native.Mathlib.Omega.{arith}
 use lib.ListN.{length, getD, take, drop, length-append, length-drop}
 use lib.Seq.{drop-drop, take-at, drop-at}
 use Rattle.base.specs.Limits.{mostRows}
-use Rattle.reading.specs.declared.letter.Letter.the-variants.{Table as T, Row as R}
+use Rattle.reading.specs.declared.letter.Letter.the-variants.{Row as R}
 use Rattle.reading.specs.declared.letter.Line.{Line}
 use Rattle.reading.specs.Letter.{widthOf}
 use Rattle.line.specs.Writing.{lineOf}

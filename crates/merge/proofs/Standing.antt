@@ -1,16 +1,15 @@
 -- What the entries in their order stand for: the joined cars, and the joined tables, whose bytes are those that are copied.
-use Prim.Native.Nat.{ℕ, zero, suc, _+_, _-_, _*_, _/_, _%_, _≤_, _<_}
+use Prim.Native.Nat.{ℕ, zero, suc, _+_, _-_, _≤_, _<_}
 use mathlib.Core.Path.{_≡_, refl, ap, ap₂, sym, subst, _∙_}
 use mathlib.Core.Bool.{Bool, true, false, cond}
 use mathlib.Core.List.{List, [], _∷_, _++_, map}
-use native.Mathlib.Nat.{div-add-mod'}
 use native.Mathlib.Numerals.{add-one}
 use native.Mathlib.Omega.{arith}
 use lib.Dec.{ltb}
 use lib.ListN.{length, getD, take, drop}
 use lib.Seq.{drop-cons}
 use borrow.Author.Tests.{lt-ltb, le-ltb}
-use Rattle.base.specs.Limits.{mostTables, mostRows}
+use Rattle.base.specs.Limits.{mostTables}
 use Rattle.base.specs.Lists.{Each}
 use Rattle.base.proofs.Lists.{length-map}
 use Rattle.table.specs.Table.{Table}

@@ -1,5 +1,5 @@
 -- Two sheets that were read: what merging them gives, by what the code finds.
-use Prim.Native.Nat.{ℕ, zero, suc, _+_, _≤_, _<_}
+use Prim.Native.Nat.{ℕ, zero, suc, _+_, _≤_}
 use mathlib.Core.Path.{_≡_, refl, ap, ap₂, sym, subst, _∙_}
 use mathlib.Core.Bool.{Bool, true, false, _||_}
 use mathlib.Core.List.{List, [], _∷_, _++_, map}
@@ -8,8 +8,8 @@ use lib.Dec.{ltb}
 use lib.ListN.{length, take}
 use lib.Seq.{length-take-le}
 use borrow.Author.Tests.{le-ltb, ltb-false}
-use Rattle.base.specs.Answer.{refuseIf, Verdict, accepts, refuses, first, firstNumber}
-use Rattle.base.specs.Limits.{mostCars, mostTables, mostRows}
+use Rattle.base.specs.Answer.{refuseIf, Verdict, accepts, first, firstNumber}
+use Rattle.base.specs.Limits.{mostCars, mostTables}
 use Rattle.base.specs.Lists.{Each}
 use Rattle.base.proofs.Answer.{refused-append}
 use Rattle.base.proofs.Choice.{neither}
@@ -22,12 +22,11 @@ use Rattle.consist.proofs.Places.{map-map}
 use Rattle.reading.specs.declared.letter.Line.{Line}
 use Rattle.grammar.specs.Text.{textOf}
 use Rattle.grammar.proofs.Text.{text-append}
-use Rattle.grammar.specs.Grammar.{TrainLine, enters, asLine, carsIn, cLine, eLine, tablesLines, sheetText, CarNumbers, WholeSheet}
+use Rattle.grammar.specs.Grammar.{enters, asLine, carsIn, cLine, eLine, tablesLines, sheetText, CarNumbers, WholeSheet}
 use Rattle.holding.specs.Layout.{historyOf}
 use Rattle.merge_held.specs.declared.Held.{Held}
 use Rattle.merge_held.specs.Inner.{carsAt, HeldIn}
 use Rattle.merge_order.specs.Inner.{placeOf}
-use Rattle.merge_spec.specs.declared.MergeReply.{MergeReply}
 use Rattle.merge_spec.specs.Merge.{rowsDiffer, typeElsewhere, heldOnBoth, mergeTests, holds, leastMergeBuffer}
 use Rattle.merge_spec.specs.Inner.{Holds, joinedTables, joinedCars, keptFrom, Merged, refused, sheet, conflictTests, sizeTests, mergedBy, mergedOf, mergedText}
 use Rattle.merge_laws.proofs.Holding.{kept-known}

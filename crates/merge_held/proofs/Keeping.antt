@@ -4,7 +4,7 @@ use mathlib.Core.Path.{_≡_, refl, ap, ap₂, sym, _∙_}
 use mathlib.Core.Bool.{Bool, true, false, cond, _||_}
 use mathlib.Core.List.{List, [], _∷_, _++_, map}
 use native.Mathlib.Omega.{arith}
-use lib.Dec.{leb, eqb}
+use lib.Dec.{leb}
 use lib.ListN.{length, take, drop, getD}
 use lib.Seq.{getD-take, getD-drop}
 use borrow.Author.Tests.{eq-eqb, ne-eqb}
@@ -18,7 +18,7 @@ use Rattle.consist.proofs.Places.{twice-snoc, twice-removed, removed-map, none-
 use Rattle.grammar.specs.Grammar.{TrainLine, enters, strikes}
 use Rattle.holding.specs.Layout.{linePlaces, carMark, lineIn, lineNumbers, historyFrom, historyOf}
 use Rattle.merge_spec.specs.Held.{numberOf}
-use Rattle.merge_spec.specs.Inner.{turnedAway, carsWithout, keptBehind, keptFrom}
+use Rattle.merge_spec.specs.Inner.{carsWithout, keptBehind, keptFrom}
 use Rattle.merge_order.specs.Inner.{carIn}
 use Rattle.merge_held.specs.Inner.{mostLines, Rows, oneMore, oneLess}
 

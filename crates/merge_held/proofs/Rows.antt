@@ -1,6 +1,6 @@
 -- Laws of two arrays of sixty: one car more behind the first ones, one car taken out of them.
 use Prim.Native.Nat.{ℕ, zero, suc, _+_, _-_, _≤_, _<_}
-use mathlib.Core.Path.{_≡_, refl, ap, ap₂, sym, _∙_}
+use mathlib.Core.Path.{_≡_, refl, ap, sym, _∙_}
 use mathlib.Core.Bool.{Bool, true, false, cond, _||_}
 use mathlib.Core.List.{List, [], _∷_, _++_}
 use native.Mathlib.Numerals.{add-one}
@@ -11,9 +11,8 @@ use lib.Seq.{take-suc-set, length-take-le}
 use borrow.Author.Tests.{le-leb, lt-leb}
 use Rattle.base.specs.Limits.{largest, mostCars}
 use Rattle.base.specs.Numbers.{outside, member}
-use Rattle.consist.specs.Train.{position, removeAt, closed}
-use Rattle.consist.proofs.Places.{closed-length}
-use Rattle.merge_held.specs.Inner.{Rows, oneMore, oneLess}
+use Rattle.consist.specs.Train.{removeAt, closed}
+use Rattle.merge_held.specs.Inner.{Rows, oneMore}
 
 -- One more.
 

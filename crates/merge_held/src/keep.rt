@@ -1,7 +1,7 @@
 // The cars held so far, by their numbers and their places in two arrays: one is kept, or taken out.
 ghost use mathlib.Core.Path.{_≡_};
 ghost use mathlib.Core.Bool.{_||_};
-ghost use lib.ListN.{length, take};
+ghost use lib.ListN.{take};
 ghost use Rattle.base.specs.Limits.{largest};
 ghost use Rattle.base.specs.Numbers.{outside, member};
 ghost use Rattle.merge_held.specs.Inner.{Rows, oneMore, oneLess};

@@ -1,7 +1,5 @@
 // The cars that a sheet still holds behind its last line, by the numbers of its C and K lines.
-ghost use mathlib.Core.Path.{_≡_};
 ghost use Prim.Native.Nat.{_≤_};
-ghost use lib.ListN.{length};
 ghost use Rattle.merge_held.specs.Inner.{mostLines, HeldIn};
 use base::MOST_CARS;
 use holding::CAR_MARK;

@@ -4,7 +4,6 @@ use mathlib.Core.Path.{_≡_, refl, ap, ap₂, sym, subst, _∙_}
 use mathlib.Core.Bool.{Bool, true, false, cond, not, _||_, _&&_, true≢false}
 use mathlib.Core.Logic.{inl, inr}
 use mathlib.Core.List.{List, [], _∷_, map}
-use native.Mathlib.Nat.{add-zero}
 use native.Mathlib.Omega.{arith}
 use lib.Dec.{ltb}
 use lib.ListN.{length}
@@ -20,7 +19,7 @@ use Rattle.grammar.proofs.Passed.{few-accepted}
 use Rattle.merge_spec.specs.declared.MergeReply.{MergeReply}
 use Rattle.merge_spec.specs.Order.{In, Rising, Joined}
 use Rattle.merge_spec.specs.Held.{numberOf, kindOf}
-use Rattle.merge_spec.specs.Merge.{Half, holds, halfOf, tableKind, rowsDiffer, typeElsewhere, heldOnBoth, typesTogether, mergeTests, Merging, refused, mergingBy, mergingOf, mergingIn, leastMergeBuffer, OneText, Written, Done, Merges}
+use Rattle.merge_spec.specs.Merge.{Half, holds, halfOf, tableKind, rowsDiffer, typeElsewhere, typesTogether, mergeTests, Merging, refused, mergingBy, mergingOf, mergingIn, leastMergeBuffer, OneText, Written, Done, Merges}
 use Rattle.merge_spec.specs.Inner.{Distinct, Agree, Holds, joinedTables}
 use Rattle.merge_spec.proofs.Order.{in-each, joined-is, joined-one, joined-itself, rising-distinct, distinct-same}
 use Rattle.merge_spec.proofs.Tables.{Good, apart, accepted-again, found, is-known}

@@ -4,7 +4,6 @@ use mathlib.Core.Path.{_≡_, refl}
 use mathlib.Core.List.{List}
 use lib.ListN.{length}
 use borrow.Author.Tests.{le-ltb}
-use Rattle.base.specs.Buffer.{put}
 use Rattle.base.specs.Rounding.{rounded}
 use Rattle.base.specs.Total.{total}
 use Rattle.field.specs.Field.{seenTo, fieldAt, justified, fieldOf}
@@ -17,16 +16,14 @@ use Rattle.heating.specs.Steps as thermal
 use Rattle.kilograms.specs.Steps as steps
 use Rattle.car.specs.Measured.{measuredTests, v0, mass, sixFigures}
 use Rattle.car.specs.Car.{carTests}
-use Rattle.table.specs.Table.{Table}
 use Rattle.summing.specs.Sums.{totalsOf, sumsOf}
-use Rattle.consist.specs.Train.{unsound, full, twice, admissionTests, enterTests, enterAnswer, enterTrain, strikeTests, strikeAnswer, strikeTrain}
+use Rattle.consist.specs.Train.{unsound, full, admissionTests, enterTests, enterAnswer, enterTrain, strikeTests, strikeAnswer, strikeTrain}
 use Rattle.grammar.specs.Sheet.{tableLine, rowLine, carLine, strikeLine, endLine, stepOf, lines, sheetOf}
 use Rattle.grammar.specs.Text.{textOf}
 use Rattle.merge_spec.specs.declared.MergeReply.{MergeReply}
-use Rattle.merge_spec.specs.Order.{Joined}
 use Rattle.merge_spec.specs.Held.{numberOf}
-use Rattle.merge_spec.specs.Merge.{Half, holds, halfOf, tableKind, rowsDiffer, heldOnBoth, leastMergeBuffer, refused, together, mergingOf, mergingIn, OneText, Done}
-use Rattle.merge_spec.specs.Inner.{joined, joinedTables, joinedCars, mergedText}
+use Rattle.merge_spec.specs.Merge.{Half, holds, halfOf, tableKind, leastMergeBuffer, mergingOf, mergingIn}
+use Rattle.merge_spec.specs.Inner.{joined, joinedTables, joinedCars}
 use Rattle.merge_laws.specs.Pair.{firstSheet, secondSheet, mergedSheet, firstTables, firstCars, secondTables, secondCars, PairExample}
 use Rattle.merge_spec.proofs.Joining.{distinct-if, tables-joined, cars-joined}
 

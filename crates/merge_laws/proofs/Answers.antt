@@ -1,7 +1,7 @@
 -- The cars of the sheet made of two, with their answers: those held on either, each answered as there.
 use Prim.Native.Nat.{ℕ, _<_}
 use mathlib.Core.Path.{_≡_, refl, ap, ap₂, sym, subst, _∙_}
-use mathlib.Core.Logic.{_⊎_, inl, inr}
+use mathlib.Core.Logic.{inl, inr}
 use mathlib.Core.List.{List, [], _∷_, map}
 use Rattle.base.specs.Answer.{Answer}
 use Rattle.base.specs.Lists.{Each}

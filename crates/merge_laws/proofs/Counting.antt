@@ -2,7 +2,7 @@
 use Prim.Native.Nat.{ℕ, suc, _+_, _<_}
 use mathlib.Core.Path.{_≡_, refl, ap, ap₂, sym, _∙_}
 use mathlib.Core.Bool.{Bool, true, false, cond, true≢false}
-use mathlib.Core.Logic.{_⊎_, inl, inr}
+use mathlib.Core.Logic.{inl, inr}
 use mathlib.Core.List.{List, [], _∷_}
 use native.Mathlib.Nat.{zero-add}
 use native.Mathlib.Omega.{arith}
@@ -15,7 +15,7 @@ use Rattle.merge_spec.specs.Order.{In, Rising}
 use Rattle.merge_spec.specs.Held.{numberOf}
 use Rattle.merge_spec.specs.Merge.{tableKind, typesTogether}
 use Rattle.merge_spec.specs.Inner.{Distinct, Agree, inserted, insertedAll, joined, joinedTables, joinedCars}
-use Rattle.merge_spec.proofs.Order.{each-in, in-each, Compared, lower, level, higher, compared, place-lower, place-level, place-higher, placed, alone, total-inserted, total-joined}
+use Rattle.merge_spec.proofs.Order.{each-in, in-each, Compared, lower, level, higher, compared, place-level, place-higher, placed, alone, total-inserted, total-joined}
 use Rattle.merge_spec.proofs.Tables.{found, is-known}
 
 -- a sum of ones is a length

@@ -1,27 +1,26 @@
 -- What is known of the cars that a sheet holds: sixty at most, with different numbers in range; and such cars, entered one after another, are all held.
 use Prim.Native.Nat.{ℕ, _+_, _≤_, _<_}
-use mathlib.Core.Path.{_≡_, refl, ap, ap₂, sym, subst, _∙_}
-use mathlib.Core.Bool.{Bool, true, false, cond, not, _||_}
-use mathlib.Core.Logic.{_⊎_, inl, inr}
+use mathlib.Core.Path.{_≡_, refl, ap, sym, subst, _∙_}
+use mathlib.Core.Bool.{Bool, false, cond, not, _||_}
+use mathlib.Core.Logic.{inl, inr}
 use mathlib.Core.List.{List, [], _∷_, _++_, map, append-nil}
 use native.Mathlib.Omega.{arith}
 use lib.Dec.{leb, eqb}
 use lib.ListN.{length, length-append}
 use lib.Seq.{append-snoc}
 use borrow.Author.Tests.{leb-false, lt-leb}
-use Rattle.base.specs.Answer.{accepts}
 use Rattle.base.specs.Limits.{largest, mostCars}
 use Rattle.base.specs.Lists.{Each}
 use Rattle.base.specs.Numbers.{outside, member}
 use Rattle.base.specs.Total.{selected}
 use Rattle.base.proofs.Choice.{neither, cond-either}
 use Rattle.base.proofs.Lists.{each-append, each-selected, length-map, map-append}
-use Rattle.table.specs.Table.{Table, tablesVerdict}
+use Rattle.table.specs.Table.{Table}
 use Rattle.grammar.specs.Grammar.{TrainLine, enters, strikes, CarNumbers, EachLine, WholeSheet}
 use Rattle.merge_spec.specs.Order.{In}
 use Rattle.merge_spec.specs.Held.{numberOf, carsHeld}
-use Rattle.merge_spec.specs.Inner.{Distinct, Holds, turnedAway, carsWithout, keptBehind, keptFrom}
-use Rattle.merge_spec.proofs.Order.{each-in, in-each}
+use Rattle.merge_spec.specs.Inner.{Distinct, Holds, turnedAway, keptBehind, keptFrom}
+use Rattle.merge_spec.proofs.Order.{in-each}
 use Rattle.merge_spec.proofs.Tables.{member-not, not-member, in-append}
 use Rattle.merge_spec.proofs.Joining.{in-map}
 use Rattle.merge_laws.proofs.Kept.{held-on-sheet}

@@ -1,10 +1,8 @@
 -- The cars that a sheet keeps, line by line, are those that its lines and answers say it holds; and what is known of them.
-use Prim.Native.Nat.{ℕ, _+_, _≤_, _<_}
+use Prim.Native.Nat.{ℕ, _+_}
 use mathlib.Core.Path.{_≡_, refl, ap, ap₂, sym, _∙_}
 use mathlib.Core.Bool.{Bool, true, false, cond, not, _||_, _&&_, true≢false}
-use mathlib.Core.Logic.{_⊎_, inl, inr}
 use mathlib.Core.List.{List, [], _∷_, _++_, map, append-nil, append-assoc}
-use native.Mathlib.Omega.{arith}
 use lib.Dec.{leb, ltb, eqb}
 use lib.ListN.{length}
 use borrow.Author.Tests.{ltb-true, lt-leb}
@@ -20,16 +18,16 @@ use Rattle.table.specs.Table.{Table, tablesTests, tablesVerdict}
 use Rattle.car.specs.Measured.{measuredTests}
 use Rattle.car.specs.Car.{carOf, Intake, dipped, numberTests, carTests, figuresOf, ownAnswer}
 use Rattle.consist.specs.Train.{Train, emptyTrain}
-use Rattle.consist.specs.Book.{Item, car, strike, Entry, numberIn, bookAdmission, entryBy, without, bookStep, bookFrom}
+use Rattle.consist.specs.Book.{car, strike, Entry, numberIn, bookAdmission, entryBy, bookFrom}
 use Rattle.consist.specs.Demand3.{answerTo, trainWith, trainFrom, answersFrom, struckIn}
 use Rattle.consist.proofs.Places.{selected-both, selected-all, map-map}
 use Rattle.consist.proofs.Kept.{Kept, bookOf, Matches, entries, keptStep, book-step, matched, answer-is}
 use Rattle.consist.proofs.Book.{start}
 use Rattle.grammar.specs.Grammar.{TrainLine, enters, strikes}
-use Rattle.answers.specs.Listing.{itemOf, itemsOf}
+use Rattle.answers.specs.Listing.{itemsOf}
 use Rattle.merge_spec.specs.Held.{numberOf, HeldCar, heldNumber, keptOut, heldIn, heldOn, carsHeld}
 use Rattle.merge_spec.specs.Merged.{HeldByTrain}
-use Rattle.merge_spec.specs.Inner.{turnedAway, carsWithout, keptBehind, keptFrom}
+use Rattle.merge_spec.specs.Inner.{turnedAway, carsWithout, keptFrom}
 
 -- A car by the numbers of its C line, as it is handed in.
 abbrev pub cast : List ℕ → Intake

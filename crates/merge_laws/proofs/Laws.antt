@@ -1,5 +1,5 @@
 -- Laws of merging: one answer only, which sheet comes first, 12; and that the lists which are worked out are what the definition asks for.
-use Prim.Native.Nat.{ℕ, _+_, _≤_}
+use Prim.Native.Nat.{ℕ, _+_}
 use mathlib.Core.Path.{_≡_, refl, ap, ap₂, sym, subst, _∙_}
 use mathlib.Core.Bool.{Bool, true, false, cond, not, _||_, _&&_, true≢false}
 use mathlib.Core.List.{List, [], _∷_, _++_, map}
@@ -13,12 +13,12 @@ use Rattle.base.proofs.Choice.{never, both-hold, neither}
 use Rattle.table.specs.Table.{Table, unknown}
 use Rattle.car.specs.Measured.{measuredTests}
 use Rattle.car.specs.Car.{carTests}
-use Rattle.grammar.specs.Grammar.{TrainLine, enters, sheetText, WholeSheet}
+use Rattle.grammar.specs.Grammar.{enters, sheetText}
 use Rattle.grammar.specs.Sheet.{SheetRead, refusedAt, whole, sheetOf}
 use Rattle.grammar.proofs.ByGrammar.{by-grammar}
 use Rattle.merge_spec.specs.declared.MergeReply.{MergeReply}
 use Rattle.merge_spec.specs.Held.{numberOf, kindOf, carsHeld}
-use Rattle.merge_spec.specs.Merge.{halfOf, tableKind, rowsDiffer, typeElsewhere, heldOnBoth, typesTogether, mergeTests, Merging, refused, together, mergingBy, mergingOf, mergingIn, leastMergeBuffer, OneText, Written, Done, Merges}
+use Rattle.merge_spec.specs.Merge.{halfOf, tableKind, rowsDiffer, typeElsewhere, heldOnBoth, typesTogether, mergeTests, Merging, refused, together, mergingBy, mergingOf, mergingIn, leastMergeBuffer, OneText, Done, Merges}
 use Rattle.merge_spec.specs.Merged.{ByTwelve, MergeLaws}
 use Rattle.merge_spec.specs.Inner.{Holds, joinedTables, joinedCars, conflictTests, sizeTests, mergedBy, mergedOf, replyTo, writtenFor}
 use Rattle.merge_spec.proofs.Order.{joined-one, joined-swap}

@@ -1,5 +1,5 @@
 -- What merging wrote, where it was not refused: it is read whole, holds and answers the cars of both sheets, and adds up.
-use Prim.Native.Nat.{ℕ, _+_, _*_, _≤_}
+use Prim.Native.Nat.{ℕ, _+_, _≤_}
 use mathlib.Core.Path.{_≡_, refl, ap, sym, subst, _∙_}
 use mathlib.Core.Bool.{Bool, true, false, cond, _||_}
 use mathlib.Core.List.{List, [], _∷_, _++_, map}
@@ -8,7 +8,6 @@ use lib.Dec.{ltb}
 use lib.ListN.{length, take, drop}
 use borrow.Author.Tests.{ltb-false}
 use Rattle.base.specs.Answer.{refuseIf, Verdict, accepts, refuses, first}
-use Rattle.base.specs.Buffer.{put}
 use Rattle.base.specs.Limits.{mostTables, mostCars}
 use Rattle.base.specs.Lists.{Each}
 use Rattle.base.proofs.Choice.{never}
@@ -22,7 +21,7 @@ use Rattle.grammar.proofs.Turns.{sheet-proper}
 use Rattle.grammar.proofs.Passed.{few-accepted}
 use Rattle.merge_spec.specs.declared.MergeReply.{MergeReply}
 use Rattle.merge_spec.specs.Held.{carsHeld}
-use Rattle.merge_spec.specs.Merge.{halfOf, rowsDiffer, typeElsewhere, heldOnBoth, typesTogether, mergeTests, refused, together, mergingBy, mergingOf, leastMergeBuffer, OneText, Written, Done, Merges}
+use Rattle.merge_spec.specs.Merge.{halfOf, rowsDiffer, typeElsewhere, heldOnBoth, typesTogether, mergeTests, refused, mergingBy, mergingOf, leastMergeBuffer, OneText, Written, Done, Merges}
 use Rattle.merge_spec.specs.Merged.{MadeOf}
 use Rattle.merge_spec.specs.Inner.{Holds}
 use Rattle.merge_laws.proofs.Holding.{held-known, all-held}

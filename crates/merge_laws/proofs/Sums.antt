@@ -15,7 +15,7 @@ use Rattle.car.specs.Car.{carOf, dipped, measuredOf}
 use Rattle.summing.specs.declared.Totals.{Totals}
 use Rattle.summing.specs.Sums.{Shown, shownMass, ofGrade, totalsOf, sumsOf, totalsFrom, gradeTotals, together}
 use Rattle.consist.specs.Train.{emptyTrain}
-use Rattle.consist.specs.Demand3.{massIn, answersFrom, struckIn, Standing, standing, shownOf, shown}
+use Rattle.consist.specs.Demand3.{massIn, answersFrom, struckIn, standing, shownOf, shown}
 use Rattle.consist.proofs.Book.{reconciled}
 use Rattle.grammar.specs.Grammar.{TrainLine, enters, strikes}
 use Rattle.answers.specs.Listing.{itemsOf}

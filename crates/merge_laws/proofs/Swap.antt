@@ -7,9 +7,8 @@ use mathlib.Core.List.{List, [], _∷_, map}
 use native.Mathlib.Omega.{arith}
 use lib.Dec.{ltb}
 use lib.ListN.{length}
-use Rattle.base.specs.Answer.{refuseIf, Verdict, first}
+use Rattle.base.specs.Answer.{refuseIf, first}
 use Rattle.base.specs.Limits.{mostTables, mostCars}
-use Rattle.base.specs.Numbers.{member}
 use Rattle.base.proofs.Choice.{neither}
 use Rattle.table.specs.Table.{Table, unknown, rowsOf}
 use Rattle.merge_spec.specs.Order.{In}

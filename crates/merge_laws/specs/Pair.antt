@@ -8,7 +8,7 @@ use lib.ListN.{length}
 use Rattle.base.specs.Buffer.{put}
 use Rattle.table.specs.Table.{rowOf, Table}
 use Rattle.grammar.specs.Sheet.{sheetOf}
-use Rattle.merge_spec.specs.Merge.{Half, holds, halfOf, Merges}
+use Rattle.merge_spec.specs.Merge.{holds, halfOf, Merges}
 
 unfoldable pub firstSheet : List ℕ
 firstSheet =

@@ -6,7 +6,6 @@ use mathlib.Core.List.{List, [], _∷_, _++_, append-nil}
 use native.Mathlib.Omega.{arith}
 use lib.ListN.{length, length-append}
 use Rattle.base.specs.Buffer.{put}
-use Rattle.base.specs.Lists.{Each}
 use Rattle.base.proofs.Buffer.{put-put}
 use Rattle.reading.specs.declared.letter.Line.{Line}
 use Rattle.reading.specs.Letter.{widthOf}
@@ -15,18 +14,15 @@ use Rattle.line.proofs.Bytes.{length-lineOf, can-write}
 use Rattle.grammar.specs.Text.{textOf}
 use Rattle.grammar.proofs.Text.{text-append}
 use Rattle.printing.proofs.Laid.{Laid}
-use Rattle.merge_lines.specs.Inner.{Fits, Room}
+use Rattle.merge_lines.specs.Inner.{Fits}
 
 module _ (lent : List ℕ) (from : ℕ) (all : List Line) (fits : from + length (textOf all) ≤ length lent) (out : List ℕ) (at : ℕ) where
-  -- some lines have room, and with them written the others are left
+  -- with some lines written the others are left
   module _ (some left : List Line) (m : Laid lent from all out at (some ++ left)) where
     ahead : at + (length (textOf some) + length (textOf left)) ≡ from + length (textOf all)
     ahead = ap (λ (n : ℕ). at + n) (sym (ap length (text-append some left) ∙ length-append (textOf some) (textOf left))) ∙ m .total
 
-    pub some-room : Each Fits some → Room some at (length out)
-    some-room e = record { each = e; space = omega (arith, ahead, m .same) }
-
-    pub some-laid : (out′ : List ℕ) (at′ : ℕ) → out′ ≡ put out at (textOf some) → at′ ≡ at + length (textOf some) → length out′ ≡ length out → Laid lent from all out′ at′ left
+    some-laid : (out′ : List ℕ) (at′ : ℕ) → out′ ≡ put out at (textOf some) → at′ ≡ at + length (textOf some) → length out′ ≡ length out → Laid lent from all out′ at′ left
     some-laid out′ at′ eo ea en = record {
       same = en ∙ m .same;
       bytes =

@@ -1,11 +1,8 @@
 -- The rules give what the examples say.
-use Prim.Native.Nat.{ℕ}
-use mathlib.Core.Path.{_≡_, refl}
-use mathlib.Core.List.{List}
-use Rattle.table.specs.Table.{Table}
+use mathlib.Core.Path.{refl}
 use Rattle.merge_spec.specs.Held.{numberOf}
-use Rattle.merge_spec.specs.Merge.{tableKind, rowsDiffer, heldOnBoth, OneText}
-use Rattle.merge_spec.specs.Inner.{joined, joinedTables, joinedCars}
+use Rattle.merge_spec.specs.Merge.{tableKind, OneText}
+use Rattle.merge_spec.specs.Inner.{joined}
 use Rattle.merge_spec.specs.Examples.{refusedMerges, frontTables, frontCars, rearTables, rearCars, bothTables, bothCars, bothText, MergeExamples}
 use Rattle.merge_spec.proofs.Joining.{distinct-if, tables-joined, cars-joined}
 

@@ -1,7 +1,7 @@
 -- The tables and the cars of two sheets put in order, by tests: their types differ on each, and so do their numbers, and neither 33 by rows nor 34 applies.
 use Prim.Native.Nat.{ℕ}
-use mathlib.Core.Path.{_≡_, refl, ap, sym, _∙_}
-use mathlib.Core.Bool.{false, _||_}
+use mathlib.Core.Path.{_≡_, ap, sym, _∙_}
+use mathlib.Core.Bool.{false}
 use mathlib.Core.Logic.{inl, inr}
 use mathlib.Core.List.{List, [], _∷_, map}
 use Rattle.base.specs.Numbers.{member}

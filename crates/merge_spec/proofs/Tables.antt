@@ -1,13 +1,13 @@
 -- Tables of two sheets taken together: they are accepted again, and each type has the rows that it has on either.
 use Prim.Native.Nat.{ℕ, _+_, _≤_}
 use mathlib.Core.Path.{_≡_, refl, ap, ap₂, sym, _∙_}
-use mathlib.Core.Bool.{Bool, true, false, cond, not, _||_, _&&_, true≢false, or-false}
-use mathlib.Core.Logic.{_⊎_, inl, inr, ⊎-elim}
-use mathlib.Core.List.{List, [], _∷_, _++_, map}
+use mathlib.Core.Bool.{Bool, true, false, cond, not, _||_, _&&_, true≢false}
+use mathlib.Core.Logic.{_⊎_, inl, inr}
+use mathlib.Core.List.{List, [], _∷_, _++_}
 use native.Mathlib.Omega.{arith}
 use lib.Dec.{eqb, leb}
 use lib.ListN.{length, length-append}
-use borrow.Author.Tests.{eq-eqb, ne-eqb, eqb-true, eqb-false, lt-leb, not-false}
+use borrow.Author.Tests.{eq-eqb, ne-eqb, eqb-true, eqb-false, lt-leb}
 use Rattle.base.specs.Answer.{accepts, first}
 use Rattle.base.specs.Limits.{mostTables, mostRows}
 use Rattle.base.specs.Lists.{Each}
@@ -15,7 +15,7 @@ use Rattle.base.specs.Numbers.{outside, member}
 use Rattle.base.proofs.Choice.{neither, both-hold, same}
 use Rattle.table.specs.Table.{Row, Table, tableLineBad, rowsTests, tablesTestsAfter, tablesVerdict, unknown, rowsOf}
 use Rattle.table.proofs.Table.{passing, next-table, table-passed}
-use Rattle.merge_spec.specs.Order.{In, Rising, Joined}
+use Rattle.merge_spec.specs.Order.{In, Joined}
 use Rattle.merge_spec.specs.Inner.{Distinct, Agree}
 use Rattle.merge_spec.specs.Merge.{tableKind, sameRow, sameRows, rowsDiffer}
 use Rattle.merge_spec.proofs.Order.{each-in, in-each, rising-distinct, distinct-same}

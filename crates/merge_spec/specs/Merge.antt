@@ -13,7 +13,7 @@ use Rattle.base.specs.Total.{selected}
 use Rattle.reading.specs.declared.letter.Letter.the-variants.{Table as T, Row as R, Car as C, End as E}
 use Rattle.reading.specs.Letter.{widthOf}
 use Rattle.table.specs.Table.{Row, Table, unknown, rowsOf}
-use Rattle.grammar.specs.Grammar.{TrainLine, enters, sheetText}
+use Rattle.grammar.specs.Grammar.{enters, sheetText}
 use Rattle.grammar.specs.Sheet.{SheetRead, sheetOf}
 use Rattle.grammar.specs.Sheet as reading
 use Rattle.merge_spec.specs.declared.MergeReply.{MergeReply}

@@ -1,15 +1,12 @@
 -- `merge::merge_second` meets its contract: the second sheet's own refusal, or both merged.
-use Prim.Native.Nat.{ℕ, _+_, _≤_}
-use mathlib.Core.Path.{_≡_, ap, sym, _∙_}
+use mathlib.Core.Path.{ap, sym, _∙_}
 use mathlib.Core.List.{[]}
-use native.Mathlib.Omega.{arith}
 use borrow.Author.Needs.{needs}
 use denote.Ref.{now}
 use Rattle.table.specs.Layout.{tablesOf}
 use Rattle.holding.specs.Layout.{historyOf}
 use Rattle.merge_spec.specs.Merge.{Half, holds, halfOf}
 use Rattle.merge_spec.specs.Inner.{keptFrom, Merged, mergedOf, replyTo, writtenFor}
-use Rattle.merge_held.specs.Inner.{mostLines}
 use Rattle.merge.proofs.Answers.{refused-read, whole-good, whole-text, whole-few, whole-half}
 use Rattle.merge.proofs.merge_second.Statement.{statement}
 use Rattle.merge.proofs.merge_second.Tie as tie

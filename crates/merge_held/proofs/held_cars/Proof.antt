@@ -1,8 +1,7 @@
 -- `merge_held::held_cars` meets its contract: each turn keeps a car, turns it away, or takes one out.
-use Prim.Native.Nat.{ℕ, _-_}
-use mathlib.Core.Path.{_≡_, refl}
+use Prim.Native.Nat.{_-_}
+use mathlib.Core.Path.{refl}
 use mathlib.Core.Logic.{⊎-elim}
-use native.Mathlib.Omega.{arith}
 use borrow.Author.Needs.{needs}
 use denote.Ref.{now}
 use Rattle.merge_held.proofs.Keeping.{Keeping, keeping-none, keeping-car, keeping-strike, keeping-all}

@@ -1,12 +1,11 @@
 -- `merge::conflict::conflict` meets its contract: 33 by rows, by the first sheet's cars, by the second's, then 34.
-use mathlib.Core.Path.{_≡_, sym, _∙_}
+use mathlib.Core.Path.{sym, _∙_}
 use mathlib.Core.Bool.{Bool}
 use Rattle.table.specs.Layout.{tablesOf}
 use Rattle.merge_held.specs.Inner.{carsAt}
 use Rattle.merge_spec.specs.Merge.{rowsDiffer, typeElsewhere, heldOnBoth}
 use Rattle.merge.proofs.Clashes.{by-rows, by-first, by-second, by-number, by-none, numbers-told}
 use denote.Ref.{now}
-use native.Mathlib.Omega.{arith}
 use borrow.Author.Needs.{needs}
 use Rattle.merge.proofs.conflict.conflict.Statement.{statement}
 use Rattle.merge.proofs.conflict.conflict.Tie as tie

@@ -1,13 +1,12 @@
 -- `merge::read::merge_read` meets its contract: 33 or 34, 35, or the sheet written.
 use Prim.Native.Nat.{ℕ}
-use mathlib.Core.Path.{_≡_, refl, ap, sym, _∙_}
+use mathlib.Core.Path.{refl, ap, sym, _∙_}
 use mathlib.Core.List.{List}
 use lib.ListN.{length}
 use Rattle.base.specs.Buffer.{put}
 use Rattle.merge_spec.specs.Inner.{Merged, replyTo, writtenFor}
 use Rattle.merge.proofs.Whole.{Both, Tested, Ordered, held-at, first-few, second-few, clashing, too-many, whole, text-is, ready}
 use denote.Ref.{now}
-use native.Mathlib.Omega.{arith}
 use borrow.Author.Needs.{needs}
 use Rattle.merge.proofs.read.merge_read.Statement.{statement}
 use Rattle.merge.proofs.read.merge_read.Tie as tie

@@ -1,10 +1,8 @@
 -- `merge_held::keep::enter` meets its contract: 9, then 10 and 11, else the car stands behind the others.
-use mathlib.Core.Path.{_≡_, ap, sym, _∙_}
-use native.Mathlib.Omega.{arith}
-use lib.ListN.{length, take}
+use mathlib.Core.Path.{sym, _∙_}
 use borrow.Author.Needs.{needs}
 use denote.Ref.{now}
-use Rattle.merge_held.proofs.Rows.{Entered, full, away, kept}
+use Rattle.merge_held.proofs.Rows.{full, away, kept}
 use Rattle.merge_held.proofs.keep.enter.Statement.{statement}
 use Rattle.merge_held.proofs.keep.enter.Tie as tie
 

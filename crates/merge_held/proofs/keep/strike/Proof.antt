@@ -1,7 +1,7 @@
 -- `merge_held::keep::strike` meets its contract: the number is not there, or its place is taken out of both arrays.
-use Prim.Native.Nat.{ℕ, _-_, _≤_, _<_}
+use Prim.Native.Nat.{ℕ, _-_}
 use mathlib.Core.Path.{_≡_, ap, sym, _∙_}
-use mathlib.Core.Bool.{Bool, true, false, cond}
+use mathlib.Core.Bool.{Bool, cond}
 use mathlib.Core.List.{List}
 use native.Mathlib.Omega.{arith}
 use lib.Dec.{ltb}
@@ -14,7 +14,6 @@ use Rattle.base.specs.Limits.{mostCars}
 use Rattle.base.specs.Numbers.{member}
 use Rattle.consist.specs.Train.{position, removeAt, closed}
 use Rattle.consist.proofs.Places.{member-position, closed-length}
-use Rattle.merge_held.specs.Inner.{Rows, oneLess}
 use Rattle.merge_held.proofs.Rows.{closed-take}
 use Rattle.merge_held.proofs.keep.strike.Statement.{statement}
 use Rattle.merge_held.proofs.keep.strike.Tie as tie

@@ -1,10 +1,9 @@
 -- `merge_held::keep::turned_away` meets its contract: 10 below, 10 above, then 11.
-use mathlib.Core.Path.{_≡_, refl, ap, sym, _∙_}
-use mathlib.Core.Bool.{Bool, true, _||_, or-true}
+use mathlib.Core.Path.{ap, sym, _∙_}
+use mathlib.Core.Bool.{Bool, _||_}
 use native.Mathlib.Omega.{arith}
 use lib.ListN.{take}
 use borrow.Author.Needs.{needs}
-use borrow.Author.Tests.{lt-ltb}
 use denote.Ref.{now}
 use Rattle.base.specs.Limits.{largest}
 use Rattle.base.specs.Numbers.{member}

@@ -1,12 +1,10 @@
 -- `merge_write::tables::table_start` meets its contract: each turn passes a table.
-use Prim.Native.Nat.{ℕ, suc, _+_, _-_, _*_, _≤_}
+use Prim.Native.Nat.{ℕ, _+_, _-_, _*_, _≤_}
 use mathlib.Core.Path.{_≡_, refl, ap, sym, _∙_}
 use native.Mathlib.Numerals.{add-one}
 use native.Mathlib.Omega.{arith}
-use lib.ListN.{getD}
 use borrow.Author.Needs.{needs}
 use denote.Ref.{now}
-use Rattle.base.specs.Limits.{mostRows}
 use Rattle.merge_write.specs.Inner.{tableBytes, startOf}
 use Rattle.merge_write.proofs.tables.table_start.Statement.{statement}
 use Rattle.merge_write.proofs.tables.table_start.Tie as tie
