@@ -20,7 +20,6 @@ use Rattle.consist.specs.Inner.{Reached}
 use Rattle.consist.proofs.Book.{reached-first, reached-next, reached-sound, reached-four}
 use Rattle.holding.specs.Layout.{lineIn, lineNumbers, historyFrom, historyOf}
 use Rattle.grammar.specs.Grammar.{TrainLine, carsIn, strikesIn, EachLine}
-use Rattle.holding.proofs.Arrays.{length-history}
 use Rattle.grammar.specs.Text.{textOf}
 use Rattle.answers.specs.Listing.{itemsOf, itemLine, totalsLines, linesFrom, leastBuffer}
 use Rattle.answers.proofs.Lengths.{line-fit, text-most}
@@ -64,7 +63,7 @@ begun ts fields lines lent e =
     let z : lines - 0 ≡ lines = omega arith in
     record {
       reached = omega arith;
-      laid = rw z (none-laid lent 0 (sheetLines ts (historyOf fields lines)));
+      laid = rw z (none-laid lent 0 (textOf (sheetLines ts (historyOf fields lines))));
       train = reached-first;
       each = rw z e;
     }
@@ -98,14 +97,14 @@ module _ (ts : List Table) (good : tablesVerdict ts ≡ accepts) (fields : List 
     ahead = rw (next-line fields lines i h) at (m .laid)
 
     pub room-for : writable line at (length out) ≡ true
-    room-for = line-room lent 0 (sheetLines ts (historyOf fields lines)) space out at line later ahead fit
+    room-for = line-room lent 0 (sheetLines ts (historyOf fields lines)) space out at line later ahead (fit .fourteen) (fit .small)
 
     pub turn : (l : Line) (running′ : Train) (out′ : List ℕ) (at′ : ℕ) → l ≡ line → running′ ≡ entered → out′ ≡ put out at (lineOf l) → at′ ≡ at + widthOf (l .letter) → length out′ ≡ length out
         → Written ts fields lines lent out′ running′ at′ (i + 1)
     turn l running′ out′ at′ el er eo ea en =
         record {
           reached = omega arith;
-          laid = rw er (line-laid lent 0 (sheetLines ts (historyOf fields lines)) space out at line later ahead fit l out′ at′ el eo ea en);
+          laid = rw er (line-laid lent 0 (sheetLines ts (historyOf fields lines)) space out at line later ahead (fit .fourteen) (fit .small) l out′ at′ el eo ea en);
           train = rw er (reached-next item (m .train));
           each = these .1;
         }

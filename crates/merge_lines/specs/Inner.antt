@@ -1,19 +1,11 @@
 -- What functions that write lines ask for; it is no part of what a merged sheet means.
 use Prim.Native.Nat.{ℕ, _+_}
 use mathlib.Core.Path.{_≡_}
-use mathlib.Core.Bool.{true}
 use mathlib.Core.List.{List}
 use lib.ListN.{length}
 use Rattle.base.specs.Buffer.{put}
 use Rattle.reading.specs.declared.letter.Line.{Line}
-use Rattle.reading.specs.Letter.{countOf, mostFields}
-use Rattle.line.specs.Writing.{smallTo}
 use Rattle.grammar.specs.Text.{textOf}
-
--- a line that can be written wherever it has room
-pub record Fits (l : Line) : Type 0 where
-  pub fourteen : length (l .numbers) ≡ mostFields
-  pub small : smallTo (l .numbers) (countOf (l .letter)) ≡ true
 
 -- the lines are written over `lent` from `at` on, which leaves `left`, and the place behind them is r
 abbrev pub Appended : List Line → ℕ → List ℕ → ℕ → List ℕ → Type 0

@@ -12,15 +12,14 @@ use Rattle.line.specs.Writing.{lineOf, writable, smallTo}
 use Rattle.grammar.specs.Text.{textOf}
 use Rattle.grammar.specs.Grammar.{cLine, CarNumbers}
 use Rattle.grammar.proofs.Text.{car-places}
-use Rattle.printing.proofs.Laid.{Laid, none-laid, all-laid}
-use Rattle.merge_lines.specs.Inner.{Fits, Appended}
-use Rattle.merge_lines.proofs.Laid.{next-room, next-laid}
+use Rattle.printing.proofs.Laid.{Laid, none-laid, line-room, line-laid, all-laid}
+use Rattle.merge_lines.specs.Inner.{Appended}
 use Rattle.merge_order.specs.Inner.{placeOf}
 use Rattle.merge_write.specs.Inner.{carBy, Stands, carLines, CarsReady}
 use Rattle.merge_order.proofs.Rest.{rest, rest-all, rest-next, rest-none}
 
-car-fits : (car : List ℕ) → CarNumbers car → Fits (cLine car)
-car-fits car h = record { fourteen = car-places car h; small = ap (λ (x : List ℕ). smallTo x mostFields) (append-nil car) ∙ h .small }
+car-small : (car : List ℕ) → CarNumbers car → smallTo (cLine car .numbers) mostFields ≡ true
+car-small car h = ap (λ (x : List ℕ). smallTo x mostFields) (append-nil car) ∙ h .small
 
 module _ (first second order : List ℕ) (count : ℕ) where
   abbrev cars : ℕ → List (List ℕ)
@@ -42,7 +41,7 @@ module _ (first second order : List ℕ) (count : ℕ) where
 
   pub cars-none : (lent : List ℕ) (at : ℕ) → CarsReady first second order count at (length lent) → CarsLaid lent at lent at 0
   cars-none lent at r = record {
-    laid = none-laid lent at (left 0);
+    laid = none-laid lent at (textOf (left 0));
     each = subst (λ (l : List ℕ). Each CarNumbers (map (carBy first second) l)) (sym (rest-all order count)) (r .each);
     places = subst (Each (λ entry. Stands (placeOf entry))) (sym (rest-all order count)) (r .places);
     space = subst (λ (ls : List Line). at + length (textOf ls) ≤ length lent) (sym all-left) (r .space);
@@ -75,12 +74,12 @@ module _ (first second order : List ℕ) (count : ℕ) where
     c-fourteen = each-next .0 .fourteen
 
     pub c-room : writable line place (length out) ≡ true
-    c-room = next-room lent from (left 0) (m .space) out place line (left (i + 1)) laid-next (car-fits (carBy first second entry) (each-next .0))
+    c-room = line-room lent from (left 0) (m .space) out place line (left (i + 1)) laid-next (car-places (carBy first second entry) (each-next .0)) (car-small (carBy first second entry) (each-next .0))
 
     pub c-laid : (l : Line) (out′ : List ℕ) (place′ : ℕ) → l ≡ line → out′ ≡ put out place (lineOf l) → place′ ≡ place + widthOf (l .letter) → length out′ ≡ length out
         → CarsLaid lent from out′ place′ (i + 1)
     c-laid l out′ place′ el eo ep en = record {
-      laid = next-laid lent from (left 0) (m .space) out place line (left (i + 1)) laid-next (car-fits (carBy first second entry) (each-next .0)) l out′ place′ el eo ep en;
+      laid = line-laid lent from (left 0) (m .space) out place line (left (i + 1)) laid-next (car-places (carBy first second entry) (each-next .0)) (car-small (carBy first second entry) (each-next .0)) l out′ place′ el eo ep en;
       each = each-next .1;
       places = places-next .1;
       space = m .space;

@@ -1,14 +1,12 @@
 -- The turns of `write_tables`: the bytes of a table for each entry.
 use Prim.Native.Nat.{ℕ, _+_, _-_, _≤_, _<_}
-use mathlib.Core.Path.{_≡_, refl, ap, ap₂, sym, subst, _∙_}
+use mathlib.Core.Path.{_≡_, ap, sym, subst, _∙_}
 use mathlib.Core.List.{List, [], _∷_, _++_}
-use native.Mathlib.Nat.{add-zero}
-use native.Mathlib.Omega.{arith}
-use lib.ListN.{length, getD, take, length-append}
+use lib.ListN.{length, getD, take}
 use Rattle.base.specs.Buffer.{put}
 use Rattle.base.specs.Lists.{Each}
-use Rattle.base.proofs.Buffer.{put-nil, put-put}
 use Rattle.table.specs.declared.Directory.{Directory}
+use Rattle.printing.proofs.Laid.{BytesLaid, none-laid, some-room, some-laid, bytes-all}
 use Rattle.merge_order.specs.Inner.{placeOf}
 use Rattle.merge_order.proofs.Rest.{rest, rest-all, rest-next, rest-none}
 use Rattle.merge_write.specs.Inner.{textPlace, WithinPlace, tablesText, TablesReady}
@@ -25,18 +23,14 @@ module _ (d : Directory) (first : List ℕ) (e : Directory) (second order : List
   all-left = ap (tablesText d first e second) (rest-all order count)
 
   pub record TablesLaid (lent : List ℕ) (from : ℕ) (out : List ℕ) (place i : ℕ) : Type 0 where
-    pub same : length out ≡ length lent
-    pub bytes : put out place (left i) ≡ put lent from (left 0)
-    pub total : place + length (left i) ≡ from + length (left 0)
+    pub laid : BytesLaid lent from (left 0) out place (left i)
     pub within : Each At (rest order count i)
     pub space : from + length (left 0) ≤ length lent
     pub there : count ≤ length order
 
   pub tables-none : (lent : List ℕ) (at : ℕ) → TablesReady d first e second order count at (length lent) → TablesLaid lent at lent at 0
   tables-none lent at r = record {
-    same = refl;
-    bytes = refl;
-    total = refl;
+    laid = none-laid lent at (left 0);
     within = subst (Each At) (sym (rest-all order count)) (r .within);
     space = subst (λ (l : List ℕ). at + length l ≤ length lent) (sym all-left) (r .space);
     there = r .there;
@@ -52,28 +46,19 @@ module _ (d : Directory) (first : List ℕ) (e : Directory) (second order : List
     next : rest order count i ≡ entry ∷ rest order count (i + 1)
     next = rest-next order count i h (m .there)
 
-    left-next : left i ≡ table ++ left (i + 1)
-    left-next = ap (tablesText d first e second) next
-
-    ahead : place + (length table + length (left (i + 1))) ≡ from + length (left 0)
-    ahead = ap (λ (n : ℕ). place + n) (sym (ap length left-next ∙ length-append table (left (i + 1)))) ∙ m .total
+    laid-next : BytesLaid lent from (left 0) out place (table ++ left (i + 1))
+    laid-next = subst (λ (l : List ℕ). BytesLaid lent from (left 0) out place (tablesText d first e second l)) next (m .laid)
 
     within-next : Each At (entry ∷ rest order count (i + 1))
     within-next = subst (Each At) next (m .within)
 
     pub table-ready : At entry × (place + length table ≤ length out)
-    table-ready = (within-next .0, omega (arith, ahead, m .space, m .same))
+    table-ready = (within-next .0, some-room lent from (left 0) (m .space) out place table (left (i + 1)) laid-next)
 
     pub table-laid : (out′ : List ℕ) (place′ : ℕ) → out′ ≡ put out place table → place′ ≡ place + length table → length out′ ≡ length out
         → TablesLaid lent from out′ place′ (i + 1)
     table-laid out′ place′ eo ep en = record {
-      same = en ∙ m .same;
-      bytes =
-          ap₂ (λ (o : List ℕ) (a : ℕ). put o a (left (i + 1))) eo ep
-          ∙ put-put out place table (left (i + 1)) (omega (arith, ahead, m .space, m .same))
-          ∙ ap (put out place) (sym left-next)
-          ∙ m .bytes;
-      total = omega (arith, ahead, ep);
+      laid = some-laid lent from (left 0) (m .space) out place table (left (i + 1)) laid-next out′ place′ eo ep en;
       within = within-next .1;
       space = m .space;
       there = m .there;
@@ -82,7 +67,6 @@ module _ (d : Directory) (first : List ℕ) (e : Directory) (second order : List
   pub tables-done : (lent : List ℕ) (from : ℕ) (out : List ℕ) (place i : ℕ) → TablesLaid lent from out place i → count ≤ i
       → (place ≡ from + length (tablesText d first e second (take count order))) × (out ≡ put lent from (tablesText d first e second (take count order)))
   tables-done lent from out place i m h =
-      let none : left i ≡ [] = ap (tablesText d first e second) (rest-none order count i h) in (
-        sym (add-zero place) ∙ ap (λ (l : List ℕ). place + length l) (sym none) ∙ m .total ∙ ap (λ (l : List ℕ). from + length l) all-left,
-        sym (put-nil out place) ∙ ap (put out place) (sym none) ∙ m .bytes ∙ ap (put lent from) all-left,
-      )
+      let none : left i ≡ [] = ap (tablesText d first e second) (rest-none order count i h) in
+      let done = bytes-all (subst (λ (l : List ℕ). BytesLaid lent from (left 0) out place l) none (m .laid)) in
+      (done .0 ∙ ap (λ (l : List ℕ). from + length l) all-left, done .1 ∙ ap (put lent from) all-left)

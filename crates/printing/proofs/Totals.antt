@@ -19,7 +19,7 @@ use Rattle.summing.proofs.Adding.{grade-low}
 use Rattle.grammar.specs.Text.{textOf}
 use Rattle.answers.specs.Listing.{totalsLine, gradeLine, gradeLines, totalsLines}
 use Rattle.printing.specs.Inner.{Closing}
-use Rattle.answers.proofs.Lines.{totals-fit, grade-fit}
+use Rattle.answers.proofs.Lines.{Fit, totals-fit, grade-fit}
 use Rattle.printing.proofs.Laid.{Laid, none-laid, line-room, line-laid, all-laid}
 
 -- S comes first.
@@ -28,11 +28,11 @@ module _ (s : Sums) (at : ℕ) (lent : List ℕ) (h : Closing s at (length lent)
   grades = gradeLines 1 (s .grades)
 
   pub first-room : writable (totalsLine (s .all)) at (length lent) ≡ true
-  first-room = line-room lent at (totalsLines s) (h .space) lent at (totalsLine (s .all)) grades (none-laid lent at (totalsLines s)) (totals-fit (h .sound .low))
+  first-room = let f = totals-fit (h .sound .low) in line-room lent at (totalsLines s) (h .space) lent at (totalsLine (s .all)) grades (none-laid lent at (textOf (totalsLines s))) (f .fourteen) (f .small)
 
   pub first-laid : (l : Line) (out : List ℕ) (place : ℕ) → l ≡ totalsLine (s .all) → out ≡ put lent at (lineOf l) → place ≡ at + widthOf (l .letter) → length out ≡ length lent
       → Laid lent at (totalsLines s) out place grades
-  first-laid l out place = line-laid lent at (totalsLines s) (h .space) lent at (totalsLine (s .all)) grades (none-laid lent at (totalsLines s)) (totals-fit (h .sound .low)) l out place
+  first-laid l out place = let f = totals-fit (h .sound .low) in line-laid lent at (totalsLines s) (h .space) lent at (totalsLine (s .all)) grades (none-laid lent at (textOf (totalsLines s))) (f .fourteen) (f .small) l out place
 
 -- Where the loop stands: over the buffer with S, the lines of the first i grades are written.
 pub record Closed (lent : List ℕ) (from : ℕ) (s : Sums) (out : List ℕ) (place i : ℕ) : Type 0 where
@@ -45,7 +45,7 @@ pub none-closed : (before : List ℕ) (at : ℕ) (s : Sums) (lent : List ℕ) (f
 none-closed before at s lent from h m = record {
   reached = omega arith;
   fits = omega (arith, h .space, m .total, m .same);
-  laid = none-laid lent from (gradeLines 1 (s .grades));
+  laid = none-laid lent from (textOf (gradeLines 1 (s .grades)));
 }
 
 module _ (before : List ℕ) (at : ℕ) (s : Sums) (h : Closing s at (length before)) (lent : List ℕ) (from : ℕ) (out : List ℕ) (place i : ℕ) (m : Closed lent from s out place i) where
@@ -68,15 +68,18 @@ module _ (before : List ℕ) (at : ℕ) (s : Sums) (h : Closing s at (length bef
     ahead : Laid lent from (gradeLines 1 (s .grades)) out place (line ∷ later)
     ahead = rw next-grade at (m .laid)
 
+    fit : Fit line
+    fit = grade-fit (omega arith) of-grade
+
     pub grade-room : writable line place (length out) ≡ true
-    grade-room = line-room lent from (gradeLines 1 (s .grades)) (m .fits) out place line later ahead (grade-fit (omega arith) of-grade)
+    grade-room = line-room lent from (gradeLines 1 (s .grades)) (m .fits) out place line later ahead (fit .fourteen) (fit .small)
 
     pub grade-turn : (l : Line) (out′ : List ℕ) (place′ : ℕ) → l ≡ line → out′ ≡ put out place (lineOf l) → place′ ≡ place + widthOf (l .letter) → length out′ ≡ length out
         → Closed lent from s out′ place′ (i + 1)
     grade-turn l out′ place′ el eo ep en = record {
       reached = omega arith;
       fits = m .fits;
-      laid = line-laid lent from (gradeLines 1 (s .grades)) (m .fits) out place line later ahead (grade-fit (omega arith) of-grade) l out′ place′ el eo ep en;
+      laid = line-laid lent from (gradeLines 1 (s .grades)) (m .fits) out place line later ahead (fit .fourteen) (fit .small) l out′ place′ el eo ep en;
     }
 
   -- behind the last grade all is written

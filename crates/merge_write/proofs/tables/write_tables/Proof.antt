@@ -55,7 +55,7 @@ loop-again c =
     (p .copy-by .last .0) (p .copy-by .result) (p .copy-by .ensures .1) (p .copy-by .ensures .0) (p .copy-by .kept .0)
 
 same-length : tie.Need-same-length Inv-loop μ-loop
-same-length c = c .before .loop .inv .same
+same-length c = c .before .loop .inv .laid .same
 
 returns : tie.Need-returns Inv-loop μ-loop
 returns c =
