@@ -1,7 +1,7 @@
 -- What the entries in their order stand for: the joined cars, and the joined tables, whose bytes are those that are copied.
 use Prim.Native.Nat.{ℕ, zero, suc, _+_, _-_, _≤_, _<_}
 use mathlib.Core.Path.{_≡_, refl, ap, ap₂, sym, subst, _∙_}
-use mathlib.Core.Bool.{Bool, true, false, cond}
+use mathlib.Core.Bool.{Bool, cond}
 use mathlib.Core.List.{List, [], _∷_, _++_, map}
 use native.Mathlib.Numerals.{add-one}
 use native.Mathlib.Omega.{arith}
@@ -26,7 +26,7 @@ use Rattle.merge_spec.specs.Held.{numberOf}
 use Rattle.merge_spec.specs.Merge.{tableKind}
 use Rattle.merge_spec.specs.Inner.{insertedAll, joined, joinedTables, joinedCars, keptFrom}
 use Rattle.merge_spec.proofs.Order.{SameKey, each-all, map-all}
-use Rattle.merge_write.specs.Inner.{Stands, carPlace, carBy, tableText, Within, textPlace, WithinPlace, tablesText}
+use Rattle.merge_write.specs.Inner.{Stands, carBy, tableText, Within, textPlace, WithinPlace, tablesText}
 use Rattle.merge.specs.Inner.{carEntries, tableEntries}
 
 -- An entry gives its key and its place back.
@@ -37,72 +37,92 @@ entry-key k p h = omega arith
 entry-place : (k p : ℕ) → p < span → placeOf (entryOf k p) ≡ p
 entry-place k p h = omega arith
 
+-- Places below `half` are the first sheet's, those from there on the second's.
+module _ (half : ℕ) (few : half ≤ halfSpan) (n p : ℕ) where
+  at-first : p < half → placeOf (entryOf n (0 + p)) ≡ p
+  at-first h = let q : 0 + p ≡ p = omega arith in ap (λ (x : ℕ). placeOf (entryOf n x)) q ∙ entry-place n p (omega arith)
+
+  at-second : p < halfSpan → placeOf (entryOf n (half + p)) ≡ half + p
+  at-second h = entry-place n (half + p) (omega arith)
+
+  -- what stands at an entry's place
+  module _ {A : Type 0} (ours theirs : ℕ → A) where
+    abbrev chosen : ℕ → A
+    chosen q = cond (ltb q half) (ours q) (theirs (q - half))
+
+    of-first : p < half → chosen (placeOf (entryOf n (0 + p))) ≡ ours p
+    of-first h = ap chosen (at-first h) ∙ ap (λ (b : Bool). cond b (ours p) (theirs (p - half))) (lt-ltb p half h)
+
+    of-second : p < halfSpan → chosen (placeOf (entryOf n (half + p))) ≡ theirs p
+    of-second h =
+        let q : half + p - half ≡ p = omega arith in
+        ap chosen (at-second h) ∙ ap (λ (b : Bool). cond b (ours (half + p)) (theirs (half + p - half))) (le-ltb (half + p) half (omega arith)) ∙ ap theirs q
+
+-- Entries of the elements `xs`, each with its element's key, and P holds of each.
+module _ {A : Type 0} (key : A → ℕ) (at : ℕ → A) (P : ℕ → Type 0) where
+  record Entries (l : List ℕ) (xs : List A) : Type 0 where
+    stand : Each (SameKey keyOf key at) l
+    are : map at l ≡ xs
+    each : Each P l
+
+  -- those of two lists, put in order, are entries of the joined list
+  in-order : (k l : List ℕ) (xs ys : List A) → Entries k xs → Entries l ys → Entries (insertedAll keyOf k (insertedAll keyOf l [])) (joined key xs ys)
+  unfolding joined
+  in-order k l xs ys a b =
+      let inner = each-all keyOf key at (SameKey keyOf key at) l [] (b .stand) tt in
+      record {
+        stand = each-all keyOf key at (SameKey keyOf key at) k (insertedAll keyOf l []) (a .stand) inner;
+        are =
+            map-all keyOf key at k (insertedAll keyOf l []) (a .stand) inner
+            ∙ ap₂ (λ (x y : List A). insertedAll key x y) (a .are) (map-all keyOf key at l [] (b .stand) tt ∙ ap (λ (x : List A). insertedAll key x []) (b .are));
+        each = each-all keyOf key at P k (insertedAll keyOf l []) (a .each) (each-all keyOf key at P l [] (b .each) tt);
+      }
+
 -- The cars.
 
 module _ (f g : List ℕ) where
-  abbrev SameNumber : ℕ → Type 0
-  SameNumber = SameKey keyOf numberOf (carBy f g)
-
-  record Entries (l : List ℕ) (cars : List (List ℕ)) : Type 0 where
-    stand : Each SameNumber l
-    cars-are : map (carBy f g) l ≡ cars
-    places : Each (λ e. Stands (placeOf e)) l
+  abbrev CarEntries : List ℕ → List (List ℕ) → Type 0
+  CarEntries = Entries numberOf (carBy f g) (λ entry. Stands (placeOf entry))
 
   first-place : (n p : ℕ) → p < mostLines → carBy f g (entryOf n (0 + p)) ≡ carIn f p
-  first-place n p h =
-      let q : 0 + p ≡ p = omega arith in
-      ap (carPlace f g) (ap (λ (x : ℕ). placeOf (entryOf n x)) q ∙ entry-place n p (omega arith))
-      ∙ ap (λ (b : Bool). cond b (carIn f p) (carIn g (p - halfSpan))) (lt-ltb p halfSpan (omega arith))
+  first-place n p h = of-first halfSpan (omega arith) n p (carIn f) (carIn g) (omega arith)
 
   second-place : (n p : ℕ) → p < mostLines → carBy f g (entryOf n (halfSpan + p)) ≡ carIn g p
-  second-place n p h =
-      let q : halfSpan + p - halfSpan ≡ p = omega arith in
-      ap (carPlace f g) (entry-place n (halfSpan + p) (omega arith))
-      ∙ ap (λ (b : Bool). cond b (carIn f (halfSpan + p)) (carIn g (halfSpan + p - halfSpan))) (le-ltb (halfSpan + p) halfSpan (omega arith))
-      ∙ ap (carIn g) q
+  second-place n p h = of-second halfSpan (omega arith) n p (carIn f) (carIn g) (omega arith)
 
   module _ (offset : ℕ) (few : offset ≤ halfSpan) (fits : (p : ℕ) → p < mostLines → Stands (offset + p)) (c : List ℕ) (at : (n p : ℕ) → p < mostLines → carBy f g (entryOf n (offset + p)) ≡ carIn c p) where
-    entries : (ps : List ℕ) → Each (λ p. p < mostLines) ps → Entries (entriesOf offset (map numberOf (map (carIn c) ps)) ps) (map (carIn c) ps)
-    entries [] h = record { stand = tt; cars-are = refl; places = tt }
+    entries : (ps : List ℕ) → Each (λ p. p < mostLines) ps → CarEntries (entriesOf offset (map numberOf (map (carIn c) ps)) ps) (map (carIn c) ps)
+    entries [] h = record { stand = tt; are = refl; each = tt }
     entries (p ∷ ps) (h, hs) =
         let r = entries ps hs in
         let n : ℕ = numberOf (carIn c p) in
         let e = at n p h in
         record {
           stand = (entry-key n (offset + p) (omega arith) ∙ ap numberOf (sym e), r .stand);
-          cars-are = ap₂ (λ (x : List ℕ) (y : List (List ℕ)). x ∷ y) e (r .cars-are);
-          places = (subst Stands (sym (entry-place n (offset + p) (omega arith))) (fits p h), r .places);
+          are = ap₂ (λ (x : List ℕ) (y : List (List ℕ)). x ∷ y) e (r .are);
+          each = (subst Stands (sym (entry-place n (offset + p) (omega arith))) (fits p h), r .each);
         }
 
-    held-entries : (h : Held) (lines : ℕ) → HeldIn c lines h → Entries (carEntries offset h) (keptFrom [] (historyOf c lines))
+    held-entries : (h : Held) (lines : ℕ) → HeldIn c lines h → CarEntries (carEntries offset h) (keptFrom [] (historyOf c lines))
     held-entries h lines i =
-        subst (λ (cars : List (List ℕ)). Entries (carEntries offset h) cars) (i .lines)
-        (subst (λ (ks : List ℕ). Entries (entriesOf offset ks (take (h .count) (h .places))) (carsAt c h)) (sym (i .numbers)) (entries (take (h .count) (h .places)) (i .places)))
+        subst (λ (cars : List (List ℕ)). CarEntries (carEntries offset h) cars) (i .lines)
+        (subst (λ (ks : List ℕ). CarEntries (entriesOf offset ks (take (h .count) (h .places))) (carsAt c h)) (sym (i .numbers)) (entries (take (h .count) (h .places)) (i .places)))
 
   module _ (a b : Held) (n m : ℕ) (i : HeldIn f n a) (j : HeldIn g m b) where
     abbrev pub carsOrder : List ℕ
     carsOrder = insertedAll keyOf (carEntries 0 a) (insertedAll keyOf (carEntries halfSpan b) [])
 
-    first-entries : Entries (carEntries 0 a) (keptFrom [] (historyOf f n))
-    first-entries = held-entries 0 (omega arith) (λ p h. omega arith) f first-place a n i
-
-    second-entries : Entries (carEntries halfSpan b) (keptFrom [] (historyOf g m))
-    second-entries = held-entries halfSpan (omega arith) (λ p h. omega arith) g second-place b m j
-
-    inner-stand : Each SameNumber (insertedAll keyOf (carEntries halfSpan b) [])
-    inner-stand = each-all keyOf numberOf (carBy f g) SameNumber (carEntries halfSpan b) [] (second-entries .stand) tt
+    cars-ordered : CarEntries carsOrder (joinedCars (keptFrom [] (historyOf f n)) (keptFrom [] (historyOf g m)))
+    cars-ordered =
+        in-order numberOf (carBy f g) (λ entry. Stands (placeOf entry)) (carEntries 0 a) (carEntries halfSpan b) (keptFrom [] (historyOf f n)) (keptFrom [] (historyOf g m))
+        (held-entries 0 (omega arith) (λ p h. omega arith) f first-place a n i)
+        (held-entries halfSpan (omega arith) (λ p h. omega arith) g second-place b m j)
 
     pub cars-stand : map (carBy f g) carsOrder ≡ joinedCars (keptFrom [] (historyOf f n)) (keptFrom [] (historyOf g m))
-    unfolding joined
-    cars-stand =
-        map-all keyOf numberOf (carBy f g) (carEntries 0 a) (insertedAll keyOf (carEntries halfSpan b) []) (first-entries .stand) inner-stand
-        ∙ ap₂ (λ (x y : List (List ℕ)). insertedAll numberOf x y) (first-entries .cars-are)
-        (map-all keyOf numberOf (carBy f g) (carEntries halfSpan b) [] (second-entries .stand) tt ∙ ap (λ (x : List (List ℕ)). insertedAll numberOf x []) (second-entries .cars-are))
+    cars-stand = cars-ordered .are
 
     pub cars-places : Each (λ e. Stands (placeOf e)) carsOrder
-    cars-places =
-        each-all keyOf numberOf (carBy f g) (λ e. Stands (placeOf e)) (carEntries 0 a) (insertedAll keyOf (carEntries halfSpan b) []) (first-entries .places)
-        (each-all keyOf numberOf (carBy f g) (λ e. Stands (placeOf e)) (carEntries halfSpan b) [] (second-entries .places) tt)
+    cars-places = cars-ordered .each
 
 -- The tables.
 
@@ -153,65 +173,51 @@ module _ (x : Tables) where
   abbrev standing : ℕ → Table
   standing entry = tablePlace (placeOf entry)
 
-  abbrev SameType : ℕ → Type 0
-  SameType = SameKey keyOf tableKind standing
-
   -- its bytes are found
   pub record Copied (entry : ℕ) : Type 0 where
     pub text : bytesPlace (placeOf entry) ≡ textOf (tableLines (standing entry))
     pub within : WithinPlace (x .d) (x .s) (x .e) (x .r) (placeOf entry)
 
-  record TableEntries (entries : List ℕ) (ts : List Table) : Type 0 where
-    stand : Each SameType entries
-    tables-are : map standing entries ≡ ts
-    copied : Each Copied entries
+  abbrev TableEntries : List ℕ → List Table → Type 0
+  TableEntries = Entries tableKind standing Copied
 
   -- a table of the first sheet, and one of the second
   module _ (n k : ℕ) (h : k < x .d .count) where
-    at-first : placeOf (entryOf n (0 + k)) ≡ k
-    at-first = let q : 0 + k ≡ k = omega arith in ap (λ (y : ℕ). placeOf (entryOf n y)) q ∙ entry-place n k (omega (arith, x .few))
-
-    low : ltb k mostTables ≡ true
-    low = lt-ltb k mostTables (omega (arith, x .few))
+    low : k < mostTables
+    low = omega (arith, x .few)
 
     first-table : standing (entryOf n (0 + k)) ≡ ourTable k
-    first-table = ap tablePlace at-first ∙ ap (λ (b : Bool). cond b (ourTable k) (theirTable (k - mostTables))) low
+    first-table = of-first mostTables (omega arith) n k ourTable theirTable low
 
     first-copied : Copied (entryOf n (0 + k))
     first-copied = record {
       text =
-          ap bytesPlace at-first
-          ∙ ap (λ (b : Bool). cond b (tableText (x .d) (x .s) k) (tableText (x .e) (x .r) (k - mostTables))) low
+          of-first mostTables (omega arith) n k (tableText (x .d) (x .s)) (tableText (x .e) (x .r)) low
           ∙ x .ours k h .0
           ∙ ap (λ (t : Table). textOf (tableLines t)) (sym first-table);
       within =
-          subst (WithinPlace (x .d) (x .s) (x .e) (x .r)) (sym at-first)
-          (record { place = omega (arith, x .few); ours = λ _. x .ours k h .1; theirs = λ q. absurd (omega (arith, x .few)) });
+          subst (WithinPlace (x .d) (x .s) (x .e) (x .r)) (sym (at-first mostTables (omega arith) n k low))
+          (record { place = omega (arith, low); ours = λ _. x .ours k h .1; theirs = λ q. absurd (omega (arith, low)) });
     }
 
   module _ (n k : ℕ) (h : k < x .e .count) where
-    at-second : placeOf (entryOf n (mostTables + k)) ≡ mostTables + k
-    at-second = entry-place n (mostTables + k) (omega (arith, x .few′))
+    near : k < halfSpan
+    near = omega (arith, x .few′)
 
     back : mostTables + k - mostTables ≡ k
     back = omega arith
 
-    high : ltb (mostTables + k) mostTables ≡ false
-    high = le-ltb (mostTables + k) mostTables (omega arith)
-
     second-table : standing (entryOf n (mostTables + k)) ≡ theirTable k
-    second-table = ap tablePlace at-second ∙ ap (λ (b : Bool). cond b (ourTable (mostTables + k)) (theirTable (mostTables + k - mostTables))) high ∙ ap theirTable back
+    second-table = of-second mostTables (omega arith) n k ourTable theirTable near
 
     second-copied : Copied (entryOf n (mostTables + k))
     second-copied = record {
       text =
-          ap bytesPlace at-second
-          ∙ ap (λ (b : Bool). cond b (tableText (x .d) (x .s) (mostTables + k)) (tableText (x .e) (x .r) (mostTables + k - mostTables))) high
-          ∙ ap (tableText (x .e) (x .r)) back
+          of-second mostTables (omega arith) n k (tableText (x .d) (x .s)) (tableText (x .e) (x .r)) near
           ∙ x .theirs k h .0
           ∙ ap (λ (t : Table). textOf (tableLines t)) (sym second-table);
       within =
-          subst (WithinPlace (x .d) (x .s) (x .e) (x .r)) (sym at-second)
+          subst (WithinPlace (x .d) (x .s) (x .e) (x .r)) (sym (at-second mostTables (omega arith) n k near))
           (record { place = omega (arith, x .few′); ours = λ q. absurd (omega arith); theirs = λ _. subst (Within (x .e) (x .r)) (sym back) (x .theirs k h .1) });
     }
 
@@ -219,7 +225,7 @@ module _ (x : Tables) where
   module _ (offset : ℕ) (few : offset ≤ mostTables) (t : Directory) (m b : List ℕ) (size : length (t .types) ≡ mostTables) (most : t .count ≤ mostTables)
       (at : (n k : ℕ) → k < t .count → standing (entryOf n (offset + k)) ≡ tableAt (t .types) (t .rows) m b k) (there : (n k : ℕ) → k < t .count → Copied (entryOf n (offset + k))) where
     table-entries : (n k : ℕ) → k + n ≤ t .count → TableEntries (entriesOf offset (take n (drop k (t .types))) (from k n)) (tablesFrom (t .types) (t .rows) m b k n)
-    table-entries zero k h = record { stand = tt; tables-are = refl; copied = tt }
+    table-entries zero k h = record { stand = tt; are = refl; each = tt }
     table-entries (suc n) k h =
         let rest = table-entries n (k + 1) (omega arith) in
         let kind : ℕ = getD (t .types) k 0 in
@@ -229,8 +235,8 @@ module _ (x : Tables) where
         subst (λ (ks : List ℕ). TableEntries (entriesOf offset ks (from k (suc n))) (tablesFrom (t .types) (t .rows) m b k (suc n))) (sym row)
         (record {
           stand = (entry-key kind (offset + k) (omega arith) ∙ ap tableKind (sym q), rest .stand);
-          tables-are = ap₂ (λ (y : Table) (z : List Table). y ∷ z) q (rest .tables-are);
-          copied = (there kind k (omega arith), rest .copied);
+          are = ap₂ (λ (y : Table) (z : List Table). y ∷ z) q (rest .are);
+          each = (there kind k (omega arith), rest .each);
         })
 
     all-entries : TableEntries (tableEntries offset t) (tablesOf t m b)
@@ -240,28 +246,15 @@ module _ (x : Tables) where
   abbrev pub tablesOrder : List ℕ
   tablesOrder = insertedAll keyOf (tableEntries 0 (x .d)) (insertedAll keyOf (tableEntries mostTables (x .e)) [])
 
-  first-tables : TableEntries (tableEntries 0 (x .d)) (tablesOf (x .d) (x .l) (x .c))
-  first-tables = all-entries 0 (omega arith) (x .d) (x .l) (x .c) (x .size) (x .few) first-table first-copied
-
-  second-tables : TableEntries (tableEntries mostTables (x .e)) (tablesOf (x .e) (x .l′) (x .c′))
-  second-tables = all-entries mostTables (omega arith) (x .e) (x .l′) (x .c′) (x .size′) (x .few′) second-table second-copied
-
-  tables-stand : map standing tablesOrder ≡ joinedTables (tablesOf (x .d) (x .l) (x .c)) (tablesOf (x .e) (x .l′) (x .c′))
-  unfolding joined
-  tables-stand =
-      map-all keyOf tableKind standing (tableEntries 0 (x .d)) (insertedAll keyOf (tableEntries mostTables (x .e)) []) (first-tables .stand)
-      (each-all keyOf tableKind standing SameType (tableEntries mostTables (x .e)) [] (second-tables .stand) tt)
-      ∙ ap₂ (λ (y z : List Table). insertedAll tableKind y z) (first-tables .tables-are)
-      (map-all keyOf tableKind standing (tableEntries mostTables (x .e)) [] (second-tables .stand) tt ∙ ap (λ (y : List Table). insertedAll tableKind y []) (second-tables .tables-are))
-
-  all-copied : Each Copied tablesOrder
-  all-copied =
-      each-all keyOf tableKind standing Copied (tableEntries 0 (x .d)) (insertedAll keyOf (tableEntries mostTables (x .e)) []) (first-tables .copied)
-      (each-all keyOf tableKind standing Copied (tableEntries mostTables (x .e)) [] (second-tables .copied) tt)
+  tables-ordered : TableEntries tablesOrder (joinedTables (tablesOf (x .d) (x .l) (x .c)) (tablesOf (x .e) (x .l′) (x .c′)))
+  tables-ordered =
+      in-order tableKind standing Copied (tableEntries 0 (x .d)) (tableEntries mostTables (x .e)) (tablesOf (x .d) (x .l) (x .c)) (tablesOf (x .e) (x .l′) (x .c′))
+      (all-entries 0 (omega arith) (x .d) (x .l) (x .c) (x .size) (x .few) first-table first-copied)
+      (all-entries mostTables (omega arith) (x .e) (x .l′) (x .c′) (x .size′) (x .few′) second-table second-copied)
 
   -- as many as the tables together
   pub tables-counted : length tablesOrder ≡ length (joinedTables (tablesOf (x .d) (x .l) (x .c)) (tablesOf (x .e) (x .l′) (x .c′)))
-  tables-counted = sym (length-map standing tablesOrder) ∙ ap length tables-stand
+  tables-counted = sym (length-map standing tablesOrder) ∙ ap length (tables-ordered .are)
 
   -- the bytes are their text
   texts-are : (order : List ℕ) → Each Copied order → tablesText (x .d) (x .s) (x .e) (x .r) order ≡ textOf (tablesLines (map standing order))
@@ -271,10 +264,10 @@ module _ (x : Tables) where
       ap₂ (λ (y z : List ℕ). y ++ z) (h .text) (texts-are order hs) ∙ sym (text-append (tableLines (standing entry)) (tablesLines (map standing order)))
 
   pub tables-text : tablesText (x .d) (x .s) (x .e) (x .r) tablesOrder ≡ textOf (tablesLines (joinedTables (tablesOf (x .d) (x .l) (x .c)) (tablesOf (x .e) (x .l′) (x .c′))))
-  tables-text = texts-are tablesOrder all-copied ∙ ap (λ (ts : List Table). textOf (tablesLines ts)) tables-stand
+  tables-text = texts-are tablesOrder (tables-ordered .each) ∙ ap (λ (ts : List Table). textOf (tablesLines ts)) (tables-ordered .are)
 
   pub tables-within : Each (λ entry. WithinPlace (x .d) (x .s) (x .e) (x .r) (placeOf entry)) tablesOrder
-  tables-within = within-each tablesOrder all-copied
+  tables-within = within-each tablesOrder (tables-ordered .each)
     where
       within-each : (order : List ℕ) → Each Copied order → Each (λ entry. WithinPlace (x .d) (x .s) (x .e) (x .r) (placeOf entry)) order
       within-each [] h = tt
