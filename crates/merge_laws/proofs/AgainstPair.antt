@@ -20,12 +20,10 @@ use Rattle.summing.specs.Sums.{totalsOf, sumsOf}
 use Rattle.consist.specs.Train.{unsound, full, admissionTests, enterTests, enterAnswer, enterTrain, strikeTests, strikeAnswer, strikeTrain}
 use Rattle.grammar.specs.Sheet.{tableLine, rowLine, carLine, strikeLine, endLine, stepOf, lines, sheetOf}
 use Rattle.grammar.specs.Text.{textOf}
-use Rattle.merge_spec.specs.declared.MergeReply.{MergeReply}
-use Rattle.merge_spec.specs.Held.{numberOf}
-use Rattle.merge_spec.specs.Merge.{Half, holds, halfOf, tableKind, leastMergeBuffer, mergingOf, mergingIn}
-use Rattle.merge_spec.specs.Inner.{joined, joinedTables, joinedCars}
+use Rattle.merge_spec.specs.Merge.{Half, holds, halfOf, leastMergeBuffer, mergingOf, mergingIn}
+use Rattle.merge_spec.specs.Inner.{joined}
 use Rattle.merge_laws.specs.Pair.{firstSheet, secondSheet, mergedSheet, firstTables, firstCars, secondTables, secondCars, PairExample}
-use Rattle.merge_spec.proofs.Joining.{distinct-if, tables-joined, cars-joined}
+use Rattle.merge_spec.proofs.Joining.{one-text}
 
 first-half : halfOf (sheetOf firstSheet) ≡ holds firstTables firstCars
 unfolding firstSheet textOf rounded seenTo fieldAt justified fieldOf letterOf feed feedAt good values lineBy lineAt fieldsOf lineOf meanLevel interpolated capacityAt capacity.v0 thermal.expansion thermal.exponent thermal.term thermal.series thermal.factor thermal.densityAt steps.stickCoefficient steps.hotVolume steps.coldVolume steps.gross steps.net steps.volume15Of steps.grossOf steps.netOf measuredTests v0 mass sixFigures carTests total totalsOf sumsOf unsound full admissionTests enterTests enterAnswer enterTrain strikeTests strikeAnswer strikeTrain tableLine rowLine carLine strikeLine endLine stepOf lines sheetOf
@@ -39,38 +37,15 @@ second-half = refl
 in-room : (lent : List ℕ) (a b : Half) → 39_771 ≤ length lent → mergingIn (length lent) a b ≡ mergingOf a b
 in-room lent a b h = rw (le-ltb (length lent) leastMergeBuffer h)
 
-abbrev reply : MergeReply
-reply = record { length = 979; number = 0; line = 0 }
-
 pub pair-example : PairExample
 unfolding mergedSheet joined textOf justified fieldOf fieldsOf lineOf
 pair-example = record {
   first = first-half;
   second = second-half;
   merged = λ lent h.
-      rw (first-half, second-half, in-room lent (holds firstTables firstCars) (holds secondTables secondCars) h) (record {
-        text = mergedSheet;
-        made = record {
-          tables = joinedTables firstTables secondTables;
-          cars = joinedCars firstCars secondCars;
-          types-joined = tables-joined firstTables secondTables (distinct-if tableKind firstTables refl) (distinct-if tableKind secondTables refl) refl;
-          cars-joined = cars-joined firstCars secondCars (distinct-if numberOf firstCars refl) (distinct-if numberOf secondCars refl) refl;
-          is = refl;
-        };
-        handed = refl;
-        bytes = refl;
-      });
+      rw (first-half, second-half, in-room lent (holds firstTables firstCars) (holds secondTables secondCars) h)
+      (record { text = mergedSheet; made = one-text firstTables firstCars secondTables secondCars mergedSheet refl refl refl refl refl refl refl; handed = refl; bytes = refl });
   swapped = λ lent h.
-      rw (first-half, second-half, in-room lent (holds secondTables secondCars) (holds firstTables firstCars) h) (record {
-        text = mergedSheet;
-        made = record {
-          tables = joinedTables secondTables firstTables;
-          cars = joinedCars secondCars firstCars;
-          types-joined = tables-joined secondTables firstTables (distinct-if tableKind secondTables refl) (distinct-if tableKind firstTables refl) refl;
-          cars-joined = cars-joined secondCars firstCars (distinct-if numberOf secondCars refl) (distinct-if numberOf firstCars refl) refl;
-          is = refl;
-        };
-        handed = refl;
-        bytes = refl;
-      });
+      rw (first-half, second-half, in-room lent (holds secondTables secondCars) (holds firstTables firstCars) h)
+      (record { text = mergedSheet; made = one-text secondTables secondCars firstTables firstCars mergedSheet refl refl refl refl refl refl refl; handed = refl; bytes = refl });
 }

@@ -8,9 +8,10 @@ use Rattle.base.specs.Numbers.{member}
 use Rattle.base.proofs.Choice.{neither}
 use Rattle.table.specs.Table.{Table}
 use Rattle.consist.specs.Train.{twice}
+use Rattle.grammar.specs.Grammar.{enters, sheetText}
 use Rattle.merge_spec.specs.Order.{In, Joined}
 use Rattle.merge_spec.specs.Held.{numberOf}
-use Rattle.merge_spec.specs.Merge.{tableKind, rowsDiffer, heldOnBoth}
+use Rattle.merge_spec.specs.Merge.{tableKind, rowsDiffer, heldOnBoth, OneText}
 use Rattle.merge_spec.specs.Inner.{Distinct, joinedTables, joinedCars}
 use Rattle.merge_spec.proofs.Order.{each-in, joined-is}
 use Rattle.merge_spec.proofs.Tables.{member-not, tables-agree}
@@ -21,7 +22,7 @@ in-map f (a ∷ l) x (inl e) = inl (ap f e)
 in-map f (a ∷ l) x (inr i) = inr (in-map f l x i)
 
 -- no key stands twice
-pub distinct-if : {A : Type 0} (key : A → ℕ) (l : List A) → twice (map key l) ≡ false → Distinct key l
+distinct-if : {A : Type 0} (key : A → ℕ) (l : List A) → twice (map key l) ≡ false → Distinct key l
 distinct-if key [] e = tt
 distinct-if key (a ∷ l) e =
     let p = neither (member (key a) (map key l)) (twice (map key l)) e in
@@ -41,3 +42,15 @@ tables-joined ts us d f e = joined-is tableKind ts us d f (tables-agree ts us f 
 
 pub cars-joined : (cs ds : List (List ℕ)) → Distinct numberOf cs → Distinct numberOf ds → heldOnBoth cs ds ≡ false → Joined numberOf cs ds (joinedCars cs ds)
 cars-joined cs ds d f e = joined-is numberOf cs ds d f (record { same = λ x y i j q. absurd (none-shared cs ds e x y i j q) })
+
+-- the text of the joined tables and cars, where neither a type nor a number stands twice on a sheet, and 33 by rows and 34 do not apply
+pub one-text : (ts : List Table) (cs : List (List ℕ)) (us : List Table) (ds : List (List ℕ)) (text : List ℕ) → twice (map tableKind ts) ≡ false → twice (map tableKind us) ≡ false
+    → rowsDiffer ts us ≡ false → twice (map numberOf cs) ≡ false → twice (map numberOf ds) ≡ false → heldOnBoth cs ds ≡ false
+    → text ≡ sheetText (joinedTables ts us) (map enters (joinedCars cs ds)) → OneText ts cs us ds text
+one-text ts cs us ds text t u r c d h e = record {
+  tables = joinedTables ts us;
+  cars = joinedCars cs ds;
+  types-joined = tables-joined ts us (distinct-if tableKind ts t) (distinct-if tableKind us u) r;
+  cars-joined = cars-joined cs ds (distinct-if numberOf cs c) (distinct-if numberOf ds d) h;
+  is = e;
+}
