@@ -1,5 +1,7 @@
 // What every other crate stands on: R of document 01, a number widened with its bound, the lesser of two, their difference, a search,
 // the edition, and the limits.
+#![tactic(auto)]
+
 ghost use Rattle.std.specs.Prelude.{◌≡◌, min, take};
 ghost use Rattle.base.specs.Rounding.{rounded};
 ghost use Rattle.base.specs.Numbers.{Wide, difference, member};

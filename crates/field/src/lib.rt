@@ -1,4 +1,6 @@
 // A field of a line: nine columns that hold a number of one to eight decimal digits, with spaces before it.
+#![tactic(auto)]
+
 ghost use Rattle.std.specs.Prelude.{◌≡◌, ◌+◌, ◌≤◌, length};
 ghost use Rattle.base.specs.Buffer.{put};
 ghost use Rattle.field.specs.Field.{columns, column_of, field_at, glyph_of, field_of, field_fits, after_field};

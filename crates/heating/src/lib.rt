@@ -1,5 +1,6 @@
 // How fuel oil and its density change with temperature: steps 4, 5, 6 and 9 of document 01, with refusals 18 and 19. It has definitions
 // and proofs, and no code.
+#![tactic(auto)]
 
 // The range of 19: densities at 15 °C, in 0.1 kg/m³.
 pub const LOWEST_DENSITY: u32 = 9_000;

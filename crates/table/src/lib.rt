@@ -1,4 +1,5 @@
 // Capacity tables: up to four, each of up to 400 rows, and what 7 and 8 ask of them. It has definitions and proofs, and no code.
+#![tactic(auto)]
 
 // How many rows there is room for: as many for each table as one may have.
 pub const PLACES: usize = base::MOST_TABLES * base::MOST_ROWS;
