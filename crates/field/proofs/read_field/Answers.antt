@@ -21,10 +21,10 @@ pub loop-i-preserved : goal.loop-i-preserved
 loop-i-preserved c = (search rules, turn _ _ _ _ _ c.loop-i.invariant.1 c.column-seen.ensures)
 
 pub returns-in-Digits : goal.returns-in-Digits
-returns-in-Digits c = let e = c.before.before.before in sym (ap finish c.seen-1.given.1) ∙ ended _ _ _ _ e.loop-i.invariant.0 e.loop-i-test.false e.loop-i.invariant.1
+returns-in-Digits c = sym (ap finish c.in-Digits.is) ∙ ended _ _ _ _ c.loop-i.invariant.0 c.loop-i-test.false c.loop-i.invariant.1
 
 pub returns-in-Blank : goal.returns-in-Blank
-returns-in-Blank c = let e = c.before.before in sym (ap finish c.enum_told-1.given.1) ∙ ended _ _ _ _ e.loop-i.invariant.0 e.loop-i-test.false e.loop-i.invariant.1
+returns-in-Blank c = sym (ap finish c.in-Blank.is) ∙ ended _ _ _ _ c.loop-i.invariant.0 c.loop-i-test.false c.loop-i.invariant.1
 
 pub returns-in-Broken : goal.returns-in-Broken
-returns-in-Broken c = let e = c.before.before in sym (ap finish c.enum_told-in-Broken-1.given.1) ∙ ended _ _ _ _ e.loop-i.invariant.0 e.loop-i-test.false e.loop-i.invariant.1
+returns-in-Broken c = sym (ap finish c.in-Broken.is) ∙ ended _ _ _ _ c.loop-i.invariant.0 c.loop-i-test.false c.loop-i.invariant.1

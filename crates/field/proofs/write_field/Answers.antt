@@ -8,23 +8,21 @@ use Rattle.field.proofs.write_field.Goals as goal
 pub returns-then-n-gt-LARGEST : goal.returns-then-n-gt-LARGEST
 returns-then-n-gt-LARGEST c =
     let a = c.args in
-    too_large a.n a.at a.out-1.now c.if-n-gt-LARGEST.true
+    too_large a.n a.at a.out.now c.if-n-gt-LARGEST.true
 
 pub returns-then-out-lt-COLUMNS : goal.returns-then-out-lt-COLUMNS
 returns-then-out-lt-COLUMNS c =
     let a = c.args in
-    no_room a.n a.at a.out-1.now (omega arith)
+    no_room a.n a.at a.out.now (omega arith)
 
 pub returns-then-out-at : goal.returns-then-out-at
 returns-then-out-at c =
     let a = c.args in
-    no_room a.n a.at a.out-1.now (omega arith)
+    no_room a.n a.at a.out.now (omega arith)
 
 pub returns : goal.returns
 returns c =
-    let l = c.before.before in
-    let e = l.before.before in
-    let a = e.args in (
-      sym (fits a.n a.at a.out-1.now (omega arith) (omega arith)),
-      l.put_field.ensures ∙ sym (field_written a.n a.at a.out-1.now (omega arith) (omega arith)),
+    let a = c.args in (
+      sym (fits a.n a.at a.out.now (omega arith) (omega arith)),
+      c.put_field.ensures ∙ sym (field_written a.n a.at a.out.now (omega arith) (omega arith)),
     )

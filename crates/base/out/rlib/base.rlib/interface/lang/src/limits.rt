@@ -1,0 +1,10 @@
+# [ read_as = "23443b5d34a9876fac38b45f70c0543f0d02442ea41822842a395422195f8522" ] pub const LARGEST : u32 = 99_999_999 ;
+# [ read_as = "c3e6d6460d4502bbd7cb3df53571c7a848b9f2d4cc6b96a4d8e8ffc0ff7da042" ] pub const MOST_TABLES : usize = 4 ;
+# [ read_as = "b89ee0c5f2d4e054fa335f81c9f4f5418173b1ab258ad8be8eb2ec91d153705f" ] pub const MOST_ROWS : usize = 400 ;
+# [ read_as = "d4287ab29c9446771e8aa37e39208e53bcabfe1ee72e5d5bd86be9f7e8f7fe3d" ] pub const MOST_CAR_LINES : usize = 120 ;
+# [ read_as = "6a60dee610f39e6194dd5ad392ac775a98394ec37299ddcc22484ba947ee7891" ] pub const MOST_STRIKES : usize = 60 ;
+# [ read_as = "6a60dee610f39e6194dd5ad392ac775a98394ec37299ddcc22484ba947ee7891" ] pub const MOST_CARS : usize = 60 ;
+# [ read_as = "c3e6d6460d4502bbd7cb3df53571c7a848b9f2d4cc6b96a4d8e8ffc0ff7da042" ] pub const GRADES : usize = 4 ;
+# [ read_as = "28165a64fb9f186038c83e397b5c1b2a4865e73a94805dd2bc560d72c3497b3b" ] pub const HIGHEST_LEVEL : u32 = 3_600 ;
+# [ read_as = "0efc7afd58e6573d0a8b2937730e4938cd9fecb00c48eac95683bad18021efa3" ] pub const GREATEST_CAPACITY : u32 = 200_000 ;
+# [ read_as = "131f6a1f76dad9c8834586b9a712d2652850d30f951de3138831ae21620d2c96" ] pub const TENTHS : u64 = 10 ;

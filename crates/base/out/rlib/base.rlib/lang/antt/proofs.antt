@@ -1,0 +1,11 @@
+pub mod Tests
+pub mod Choice
+pub mod Numbers
+pub mod Answer
+pub mod Product
+pub mod Rounding
+pub mod Fraction
+pub mod Near
+pub mod Buffer
+pub mod Lists
+pub mod Total

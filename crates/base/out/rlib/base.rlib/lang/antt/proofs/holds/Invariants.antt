@@ -1,0 +1,18 @@
+-- `base::holds` meets its contract: what was found so far is what `member` says of the numbers that were passed.
+use Prim.Native.Nat.{ℕ, ◌-◌, ◌≤◌, ◌<◌, min}
+use mathlib.Core.Path.{◌≡◌, refl, ap, ◌∙◌}
+use mathlib.Core.List.{List}
+use mathlib.Core.Logic.{⊎_elim}
+use native.Mathlib.Nat.{min-le_right}
+use native.Mathlib.Omega.{arith}
+use lib.ListN.{length, take}
+use borrow.Author.Rules.{rules}
+use Rattle.base.specs.Numbers.{member}
+use Rattle.base.proofs.Numbers.{member_hit, member_miss, take_lesser}
+use Rattle.base.proofs.holds.Given as goal
+
+abbrev pub invariant-loop-i : goal.invariant-loop-i
+invariant-loop-i l = (l.i ≤ l.last) × (l.found ≡ member l.x (take l.i l.numbers))
+
+abbrev pub decreases-loop-i : goal.decreases-loop-i
+decreases-loop-i l = l.last - l.i
