@@ -1,4 +1,5 @@
 // The stick compared with the tape, request (f) of document 02 (002, section 14). It has definitions and proofs, and no code.
+#![tactic(auto)]
 
 // How many places there are for readings of the tape.
 pub const TAPE_READINGS: usize = 20;

@@ -1,4 +1,6 @@
 // What a portable probe hands over, and its tenths: request (i) of document 02. It has definitions and proofs, and no code.
+#![tactic(auto)]
+
 use heating::Density15;
 
 // A reading is a level in mm, a temperature in °C or a density at 15 °C in kg/m³.

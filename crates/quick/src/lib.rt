@@ -1,4 +1,6 @@
 // The number in a field, read four columns at a time where it has the length that is usual in a row.
+#![tactic(auto)]
+
 ghost use Rattle.std.specs.Prelude.{◌≡◌, false, ◌+◌, ◌≤◌, length};
 ghost use Rattle.base.specs.Limits.{largest};
 ghost use Rattle.field.specs.Field.{columns, field_at};

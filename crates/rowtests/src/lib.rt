@@ -1,4 +1,6 @@
 // Refusals 7 and 8 for the lines of a table, one by one.
+#![tactic(auto)]
+
 ghost use Rattle.std.specs.Prelude.{◌≡◌, ◌+◌, ◌<◌, take};
 ghost use Rattle.table.specs.Table.{row_of, table_line_bad, first_row_bad, later_row_bad, row_bad};
 ghost use Rattle.table.specs.Layout.{places, rows_from};

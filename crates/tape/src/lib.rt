@@ -1,4 +1,6 @@
 // The tape allowance (002, 14.1.1), by the rule of GOST 7502. Levels are in tenths of a mm.
+#![tactic(auto)]
+
 ghost use Rattle.std.specs.Prelude.{◌≡◌};
 ghost use Rattle.dip.specs.Tape.{allowance_answer, allowance_told};
 ghost use Rattle.dip.specs.Formula.{FormulaRight};

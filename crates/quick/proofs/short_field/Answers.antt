@@ -1,0 +1,10 @@
+-- `quick::short_field` meets its contract.
+use Rattle.quick.proofs.Columns.{short_read}
+use borrow.Author.Tests.{eq-eqb}
+use borrow.Author.Rules.{rules}
+use Rattle.quick.proofs.short_field.Goals as goal
+
+pub returns-then-n-le-LARGEST : goal.returns-then-n-le-LARGEST
+returns-then-n-le-LARGEST c =
+    short_read _ _ c.first_four-f.result c.last_four.result c.first_four-f.ensures c.last_four.ensures c.if-s-at-eq32.true
+    (eq-eqb _ _ c.if-f-eq32.true) (eq-eqb _ _ c.if-f-eq32-2.true) _ c.if-f-eq32-3.true (eq-eqb _ _ c.if-f-eq32-4.true) (c.short_number-n.ensures c.if-n-le-LARGEST.true)
