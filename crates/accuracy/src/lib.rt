@@ -4,7 +4,7 @@ use car::Figures;
 
 // The errors that are given: of the capacity table, of the density and of processing, in 0.0001 %; of the temperatures at which density
 // and oil were measured, in 0.1 °C; of the level, in 0.1 mm.
-#[derive(Drop)]
+#[derive(Clone, Copy)]
 pub struct Errors {
     pub capacity: u32,
     pub density: u32,
@@ -16,7 +16,7 @@ pub struct Errors {
 
 // A car's six figures, the limit of the permitted error of its gross mass in 0.0001 %, and whether it is within 0.65 % (gross below
 // 100 t) or 0.50 % (from 100 t).
-#[derive(Drop)]
+#[derive(Clone, Copy)]
 pub struct Permitted {
     pub figures: Figures,
     pub limit: u32,
@@ -24,7 +24,7 @@ pub struct Permitted {
 }
 
 // The permitted error beside the mass, or the refusal.
-#[derive(Drop)]
+#[derive(Clone, Copy)]
 pub enum PermittedError {
     Limit(Permitted),
     Refused(u32),

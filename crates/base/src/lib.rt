@@ -15,7 +15,7 @@ pub use limits::{
 };
 
 // The edition of a contract: masses are reckoned at 15 °C in the first, at 20 °C in the second.
-#[derive(Drop)]
+#[derive(Clone, Copy)]
 pub enum Edition {
     First,
     Second,

@@ -4,7 +4,7 @@ use probe_spec::ProbeSet;
 
 // A car's fields as on its C line: type (kind), grade, stick, number of readings (count), readings and water level in mm,
 // oil temperature in 0.1 °C, density at 15 °C in 0.1 kg/m³, water and impurities in 0.01 %.
-#[derive(Drop)]
+#[derive(Clone, Copy)]
 pub struct Car {
     pub number: u32,
     pub kind: u32,
@@ -20,7 +20,7 @@ pub struct Car {
 }
 
 // A car that a portable probe read: a set of level, temperature and density stands for readings, temperature and density.
-#[derive(Drop)]
+#[derive(Clone, Copy)]
 pub struct ProbeCar {
     pub number: u32,
     pub kind: u32,
@@ -33,7 +33,7 @@ pub struct ProbeCar {
 }
 
 // What is measured of a car, of which its figures are worked out: the mean level, in tenths of a mm, in place of the readings.
-#[derive(Drop)]
+#[derive(Clone, Copy)]
 pub struct Measured {
     pub kind: u32,
     pub grade: u32,
@@ -47,14 +47,14 @@ pub struct Measured {
 }
 
 // A probe's car whose set has come to tenths: its number, and what is measured of it.
-#[derive(Drop)]
+#[derive(Clone, Copy)]
 pub struct Probed {
     pub number: u32,
     pub measured: Measured,
 }
 
 // The six figures: car number, mean level in tenths of a mm, V0 and V15 in 0.01 dm³, gross and net in kg.
-#[derive(Drop)]
+#[derive(Clone, Copy)]
 pub struct Figures {
     pub number: u32,
     pub level: u32,
@@ -65,7 +65,7 @@ pub struct Figures {
 }
 
 // A car's answer: six figures, or the refusal.
-#[derive(Drop)]
+#[derive(Clone, Copy)]
 pub enum CarAnswer {
     Accepted(Figures),
     Refused(u32),

@@ -1,4 +1,6 @@
 // The stick compared with the tape, request (f) of document 02. A stick level is in tenths of a mm, readings are in mm.
+#![tactic(auto)]
+
 ghost use Rattle.std.specs.Prelude.{◌≡◌, ◌≤◌};
 ghost use Rattle.comparison.specs.Answers.{most_readings, given, comparison_at, check_answer, check_told};
 ghost use Rattle.comparison.specs.Told.{ToldOnly};
@@ -21,7 +23,7 @@ const MILLIMETRE: u64 = 100;
 const MOST_APART: u64 = 200;
 
 // The sum of given readings in mm, or that one of them is outside 1 to 3,600 mm.
-#[derive(Drop)]
+#[derive(Clone, Copy)]
 enum TapeSum {
     Millimetres(u32),
     Outside,

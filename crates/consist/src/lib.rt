@@ -3,7 +3,7 @@
 use summing::Sums;
 
 // All of a train but the cars that it holds, which lie in arrays.
-#[derive(Drop)]
+#[derive(Clone, Copy)]
 pub struct Tally {
     pub sums: Sums,
     pub held: u32,

@@ -3,14 +3,14 @@
 #![tactic(auto)]
 
 // A mean level in tenths of a mm, or the number of a refusal.
-#[derive(Drop)]
+#[derive(Clone, Copy)]
 pub enum MeanLevel {
     Tenths(u64),
     Refused(u32),
 }
 
 // A tape allowance in 0.01 mm, or the number of a refusal.
-#[derive(Drop)]
+#[derive(Clone, Copy)]
 pub enum Allowance {
     HundredthsOfMillimetre(u32),
     Refused(u32),

@@ -21,7 +21,7 @@ mod probed; // probed.rt: the car of a portable probe
 pub use probed::enter_probed_on;
 
 // What a place holds beside the number: grade, gross and net in kg of an accepted car, else zeros.
-#[derive(Drop)]
+#[derive(Clone, Copy)]
 struct Load {
     grade: u32,
     gross: u32,
@@ -29,7 +29,7 @@ struct Load {
 }
 
 // What entering a car in such a train gives: its answer, and how many cars the train then holds.
-#[derive(Drop)]
+#[derive(Clone, Copy)]
 pub struct Entered {
     pub answer: CarAnswer,
     pub held: u32,

@@ -13,7 +13,7 @@ use probe_spec::{ConvertedSet, ProbeSet};
 use trainslice::TRAIN_PLACES;
 
 // A probe's car whose set is in tenths, or the refusal of its set.
-#[derive(Drop)]
+#[derive(Clone, Copy)]
 enum Prepared {
     Probed(Probed),
     Refused(u32),

@@ -16,7 +16,7 @@ const LAST: usize = COLUMNS - 1;
 const SEVEN_DIGITS: u32 = LARGEST / 10;
 
 // What the columns passed so far hold.
-#[derive(Drop)]
+#[derive(Clone, Copy)]
 pub enum Seen {
     Blank,
     Digits(u32),
@@ -24,7 +24,7 @@ pub enum Seen {
 }
 
 // What a field holds.
-#[derive(Drop)]
+#[derive(Clone, Copy)]
 pub enum Field {
     Number(u32),
     NotNumber,

@@ -3,14 +3,14 @@
 #![tactic(auto)]
 
 // A volume in 0.01 dm³, or the refusal.
-#[derive(Drop)]
+#[derive(Clone, Copy)]
 pub enum Volume {
     Hundredths(u32),
     Refused(u32),
 }
 
 // Two neighbouring rows of a table: levels in mm, capacities in dm³.
-#[derive(Drop)]
+#[derive(Clone, Copy)]
 pub struct Neighbours {
     pub low_level: u32,
     pub low_capacity: u32,
@@ -19,7 +19,7 @@ pub struct Neighbours {
 }
 
 // The rows around a level, or the refusal.
-#[derive(Drop)]
+#[derive(Clone, Copy)]
 pub enum Around {
     Rows(Neighbours),
     Refused(u32),

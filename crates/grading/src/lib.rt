@@ -3,7 +3,7 @@
 #![tactic(auto)]
 
 // What is left beside water and impurities, in 0.01 %, or a refusal.
-#[derive(Drop)]
+#[derive(Clone, Copy)]
 pub enum OilShare {
     Hundredths(u32),
     Refused(u32),

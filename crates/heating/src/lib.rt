@@ -8,35 +8,35 @@ pub const LOWEST_DENSITY: u32 = 9_000;
 pub const HIGHEST_DENSITY: u32 = 9_900;
 
 // A density at 15 °C and a density at 20 °C, in 0.1 kg/m³, each a type of its own: one is never taken for the other.
-#[derive(Drop)]
+#[derive(Clone, Copy)]
 pub struct Density15(pub u32);
 
-#[derive(Drop)]
+#[derive(Clone, Copy)]
 pub struct Density20(pub u32);
 
 // An oil by its density at 15 °C, with its B of step 4, in 10⁻⁹ per °C: B is found once and handed on.
-#[derive(Drop)]
+#[derive(Clone, Copy)]
 pub struct Oil {
     pub density: Density15,
     pub expansion: u32,
 }
 
 // B in 10⁻⁹ per °C, or a refusal.
-#[derive(Drop)]
+#[derive(Clone, Copy)]
 pub enum Expansion {
     Billionths(u32),
     Refused(u32),
 }
 
 // E in 10⁻¹⁰, or a refusal.
-#[derive(Drop)]
+#[derive(Clone, Copy)]
 pub enum Factor {
     TenBillionths(u64),
     Refused(u32),
 }
 
 // The density at 20 °C, or a refusal.
-#[derive(Drop)]
+#[derive(Clone, Copy)]
 pub enum DensityAt20 {
     Density(Density20),
     Refused(u32),

@@ -19,7 +19,7 @@ pub const CAR_MARK: u32 = 0;
 pub const STRIKE_MARK: u32 = 1;
 
 // Whether the sheet was read whole, or the line number and the refusal.
-#[derive(Drop)]
+#[derive(Clone, Copy)]
 pub enum Outcome {
     Whole,
     RefusedAt(u32, u32),

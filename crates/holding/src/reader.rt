@@ -11,7 +11,7 @@ use table::Directory;
 
 // The place and the number of the line due, how many rows the last table still lacks, and how many C lines, K lines
 // and tables there are so far. The directory counts the rows that were read.
-#[derive(Drop)]
+#[derive(Clone, Copy)]
 pub struct Reader {
     pub at: usize,
     pub line: u32,
@@ -22,13 +22,13 @@ pub struct Reader {
 }
 
 // What a line brings: one more line is due, or the reading is over. An enum may not hold the reader's arrays.
-#[derive(Drop)]
+#[derive(Clone, Copy)]
 pub enum Progress {
     Next,
     Over(Outcome),
 }
 
-#[derive(Drop)]
+#[derive(Clone, Copy)]
 pub struct Stepped {
     pub progress: Progress,
     pub reader: Reader,

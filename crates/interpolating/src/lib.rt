@@ -1,5 +1,7 @@
 // The rows of one table: those that a level passes, and the capacity between two. Rows are in mm and dm³, a level is in tenths
 // of a mm.
+#![tactic(auto)]
+
 ghost use Rattle.std.specs.Prelude.{◌≡◌, ◌+◌, ◌≤◌, ◌<◌};
 ghost use Rattle.base.specs.Limits.{in_tenths};
 ghost use Rattle.table.specs.Layout.{places};

@@ -36,7 +36,7 @@ pub const LEAST_BUFFER: usize = MOST_CAR_LINES * scanning::CAR_ACCEPTED_BYTES
     + GRADES * scanning::GRADE_TOTALS_BYTES;
 
 // What a line behind the tables gives: its line of the listing, and how many cars the train then holds.
-#[derive(Drop)]
+#[derive(Clone, Copy)]
 struct Listed {
     line: Line,
     held: u32,

@@ -8,7 +8,7 @@ use holding::{CAR_MARK, HISTORY_NUMBERS, LINE_PLACES};
 mod keep; // keep.rt: a car kept or taken out, in two arrays
 
 // The cars held, in sheet order: their numbers, and which lines behind the tables they are, counted from 0.
-#[derive(Drop)]
+#[derive(Clone, Copy)]
 pub struct Held {
     pub numbers: [u32; MOST_CARS],
     pub places: [u32; MOST_CARS],

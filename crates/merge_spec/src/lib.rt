@@ -2,7 +2,7 @@
 // proofs, and no code.
 
 // What merging hands back: the length of the merged sheet in bytes, and 0 and 0; or 0, the number of the refusal and its line.
-#[derive(Drop)]
+#[derive(Clone, Copy)]
 pub struct MergeReply {
     pub length: usize,
     pub number: u32,

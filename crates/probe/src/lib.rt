@@ -1,4 +1,6 @@
 // A probe's numbers in tenths. No product and no sum of floats decides a digit: the bits of an f32 give two whole numbers, and the rest is done with these.
+#![tactic(auto)]
+
 ghost use Rattle.std.specs.Prelude.{◌≡◌, ◌^◌};
 ghost use Rattle.probe_spec.specs.Tenths.{tenths_answer, value_of, set_answer, converted_told, set_told};
 ghost use Rattle.probe_spec.specs.Nearest.{TenthsOfFraction, FloatsRight};

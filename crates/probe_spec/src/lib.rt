@@ -4,7 +4,7 @@
 use heating::Density15;
 
 // A reading is a level in mm, a temperature in °C or a density at 15 °C in kg/m³.
-#[derive(Drop)]
+#[derive(Clone, Copy)]
 pub enum ProbeReading {
     Level(f32),
     Temperature(f32),
@@ -12,7 +12,7 @@ pub enum ProbeReading {
 }
 
 // A set is one of each held together.
-#[derive(Drop)]
+#[derive(Clone, Copy)]
 pub struct ProbeSet {
     pub level: f32,
     pub temperature: f32,
@@ -20,7 +20,7 @@ pub struct ProbeSet {
 }
 
 // A set in tenths: of a mm, of a °C, and the density at 15 °C in 0.1 kg/m³.
-#[derive(Drop)]
+#[derive(Clone, Copy)]
 pub struct SetTenths {
     pub level: u32,
     pub temperature: u32,
@@ -28,14 +28,14 @@ pub struct SetTenths {
 }
 
 // Tenths, or the refusal.
-#[derive(Drop)]
+#[derive(Clone, Copy)]
 pub enum Converted {
     Tenths(u32),
     Refused(u32),
 }
 
 // A set in tenths, or the refusal.
-#[derive(Drop)]
+#[derive(Clone, Copy)]
 pub enum ConvertedSet {
     Tenths(SetTenths),
     Refused(u32),

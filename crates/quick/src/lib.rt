@@ -14,7 +14,7 @@ use field::Field;
 const NO_NUMBER: u32 = LARGEST + 1;
 
 // Four columns.
-#[derive(Drop)]
+#[derive(Clone, Copy)]
 struct Four {
     a: u8,
     b: u8,

@@ -1,7 +1,7 @@
 // The letters of a sheet and of an answer, and a line's value.
 
 // T, R, C, K, E of a sheet; A, X, S, G, Z of an answer, which has K lines too.
-#[derive(Drop)]
+#[derive(Clone, Copy)]
 pub enum Letter {
     Table,
     Row,
@@ -19,7 +19,7 @@ pub enum Letter {
 pub const MOST_FIELDS: usize = 14;
 
 // A line: its letter, and its numbers in the first places, as many as the letter has fields.
-#[derive(Drop)]
+#[derive(Clone, Copy)]
 pub struct Line {
     pub letter: Letter,
     pub numbers: [u32; MOST_FIELDS],

@@ -4,7 +4,7 @@ use showing::{field, places_of, refused, say, show_figures};
 use tankcar::{Car, Density15, Directory, Errors, Permitted, PermittedError};
 
 // Up to four rows of one table of type 1; row 0 is 0 and 0.
-#[derive(Drop)]
+#[derive(Clone, Copy)]
 struct Rows {
     count: u32,
     levels: [u32; 4],

@@ -20,7 +20,7 @@ pub const LONGEST_SHEET: usize = MOST_TABLES * (TABLE_BYTES + MOST_ROWS * ROW_BY
 
 // What reading a sheet gives, beside the arrays that are lent: the rows of its tables stand there as the
 // directory says, line i behind the tables, of so many C and K lines, from 15 i on. Beside a refusal they are what was read before it.
-#[derive(Drop)]
+#[derive(Clone, Copy)]
 pub struct Contents {
     pub outcome: Outcome,
     pub directory: Directory,

@@ -8,7 +8,7 @@ ghost use Rattle.summing.specs.Inner.{Small, shown_as};
 use base::GRADES;
 
 // How many cars are accepted, and their gross and net in kg.
-#[derive(Drop)]
+#[derive(Clone, Copy)]
 pub struct Totals {
     pub accepted: u32,
     pub gross: u64,
@@ -16,7 +16,7 @@ pub struct Totals {
 }
 
 // The totals of all accepted cars, and of those of each grade, grade 1 first.
-#[derive(Drop)]
+#[derive(Clone, Copy)]
 pub struct Sums {
     pub all: Totals,
     pub grades: [Totals; GRADES],

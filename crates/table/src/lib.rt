@@ -6,7 +6,7 @@ pub const PLACES: usize = base::MOST_TABLES * base::MOST_ROWS;
 
 // Which tables there are: their number, their types and how many rows each has. Row i of table k stands at
 // 400 k + i of the arrays of levels (mm) and capacities (dm³) that are lent beside the directory.
-#[derive(Drop)]
+#[derive(Clone, Copy)]
 pub struct Directory {
     pub types: [u32; base::MOST_TABLES],
     pub rows: [u32; base::MOST_TABLES],

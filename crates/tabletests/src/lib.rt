@@ -1,4 +1,6 @@
 // Refusals 7 and 8 of tables handed in, and whether a type is known, which 12 asks.
+#![tactic(auto)]
+
 ghost use Rattle.std.specs.Prelude.{◌≡◌, ◌+◌, ◌≤◌, ◌<◌};
 ghost use Rattle.base.specs.Answer.{first_number};
 ghost use Rattle.base.specs.Numbers.{member};

@@ -1,4 +1,6 @@
 // How fuel oil and its density change with temperature: steps 4, 5, 6 and 9 of document 01, and what callers may ask of a density and a temperature.
+#![tactic(auto)]
+
 ghost use Rattle.std.specs.Prelude.{◌≡◌};
 ghost use Rattle.heating.specs.Answers.{
   expansion_told,

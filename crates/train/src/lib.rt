@@ -13,7 +13,7 @@ pub use probed::{enter_probed, work_out_probe, work_probed, work_probed_alone};
 
 // The running train: its sums, and the cars it holds in the first `held` places, by number, grade, gross and net in kg; grade 0
 // is a car that was refused, and has no masses.
-#[derive(Drop)]
+#[derive(Clone, Copy)]
 pub struct Train {
     pub sums: Sums,
     pub held: u32,
@@ -24,14 +24,14 @@ pub struct Train {
 }
 
 // What entering a car gives: its answer, and the train with it entered.
-#[derive(Drop)]
+#[derive(Clone, Copy)]
 pub struct Step {
     pub answer: CarAnswer,
     pub train: Train,
 }
 
 // What striking a car gives: its answer, and the train without the car.
-#[derive(Drop)]
+#[derive(Clone, Copy)]
 pub struct StrikeStep {
     pub answer: StrikeAnswer,
     pub train: Train,

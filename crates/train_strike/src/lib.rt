@@ -9,14 +9,14 @@ ghost use Rattle.train_strike.specs.Told.{strike_told};
 use base::MOST_CARS;
 
 // What a strike is answered: the number that was struck, or the refusal.
-#[derive(Drop)]
+#[derive(Clone, Copy)]
 pub enum StrikeAnswer {
     Struck(u32),
     Refused(u32),
 }
 
 // What striking a car gives: its answer, and how many cars the train then holds.
-#[derive(Drop)]
+#[derive(Clone, Copy)]
 pub struct Removed {
     pub answer: StrikeAnswer,
     pub held: u32,

@@ -4,7 +4,7 @@ ghost use Rattle.base.specs.Numbers.{Wide, difference, member};
 ghost use Rattle.base.specs.Edition.{edition_by};
 mod limits ;
 pub use limits :: { GRADES , GREATEST_CAPACITY , HIGHEST_LEVEL , LARGEST , MOST_CAR_LINES , MOST_CARS , MOST_ROWS , MOST_STRIKES , MOST_TABLES , TENTHS , } ;
-# [ derive ( Drop ) ] pub enum Edition { First , Second , }
+# [ derive ( Clone , Copy ) ] pub enum Edition { First , Second , }
 pub fn edition_by ( number : u32 ) -> Edition
     ensures { result ≡ edition_by number } ;
 pub fn round_half_up ( n : u64 , d : u64 ) -> u64

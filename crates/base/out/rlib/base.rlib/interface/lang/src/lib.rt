@@ -9,7 +9,7 @@ pub use limits :: MOST_ROWS ;
 pub use limits :: MOST_STRIKES ;
 pub use limits :: MOST_TABLES ;
 pub use limits :: TENTHS ;
-# [ derive ( Drop ) ] pub enum Edition { First , Second , }
+# [ derive ( Clone , Copy ) ] pub enum Edition { First , Second , }
 pub fn edition_by ( number : u32 ) -> Edition
     ensures { } ;
 pub fn round_half_up ( n : u64 , d : u64 ) -> u64
