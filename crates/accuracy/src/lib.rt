@@ -1,5 +1,7 @@
 // The permitted error beside the mass: request (c) of document 02, after formula (20) of document 003. It has definitions and proofs, and
 // no code.
+#![tactic(auto)]
+
 use car::Figures;
 
 // The errors that are given: of the capacity table, of the density and of processing, in 0.0001 %; of the temperatures at which density

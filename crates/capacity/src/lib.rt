@@ -1,5 +1,7 @@
 // The capacity at a level, read off capacity tables, and V0: step 2 of document 01, with refusals 12, 16 and 17. Rows and water levels
 // are in mm, every other level is in tenths of a mm.
+#![tactic(auto)]
+
 ghost use Rattle.std.specs.Prelude.{◌≡◌};
 ghost use Rattle.table.specs.Layout.{tables_of};
 ghost use Rattle.table.specs.Inner.{Good};

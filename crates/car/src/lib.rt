@@ -1,4 +1,6 @@
 // A car: its refusals in the listed order, its six figures, its exact value, and the rack card. It has definitions and proofs, and no code.
+#![tactic(auto)]
+
 use heating::Density15;
 use probe_spec::ProbeSet;
 

@@ -1,4 +1,6 @@
 // The stick compared with the tape for C and Rust: on numbers and slices, as in `exported_cars`.
+#![tactic(auto)]
+
 ghost use Rattle.std.specs.Prelude.{◌≡◌, length};
 ghost use Rattle.comparison.specs.Answers.{most_readings, check_answer, check_told};
 ghost use Rattle.marshalling.specs.Handed.{sized, Handed, figures_left};

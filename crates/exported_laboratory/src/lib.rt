@@ -1,4 +1,6 @@
 // A laboratory's density brought to 15 °C for C and Rust: on numbers, as in `exported_parts`.
+#![tactic(auto)]
+
 ghost use Rattle.laboratory.specs.Nearest.{report_of};
 ghost use Rattle.exported_laboratory.specs.Layout.{ReportHanded};
 

@@ -1,4 +1,6 @@
 // The grades' limits (002, table 5): refusals 13 and 18 to 21 of document 01, the share of oil, and what callers may ask of a grade's fields.
+#![tactic(auto)]
+
 ghost use Rattle.std.specs.Prelude.{◌≡◌};
 ghost use Rattle.heating.specs.Answers.{density20_told};
 ghost use Rattle.grading.specs.Grades.{oil_share};

@@ -1,4 +1,6 @@
 // What is held while a sheet is read: where the reading stands, and the rows and lines behind the tables so far.
+#![tactic(auto)]
+
 use base::{MOST_CAR_LINES, MOST_STRIKES};
 use reading::MOST_FIELDS;
 

@@ -1,4 +1,6 @@
 // Lines of a sheet and of an answer: read one line alone, write one line.
+#![tactic(auto)]
+
 ghost use Rattle.std.specs.Prelude.{◌≡◌};
 ghost use Rattle.reading.specs.Reading.{any};
 ghost use Rattle.reading.specs.Tests.{line_answer, line_told};

@@ -1,5 +1,7 @@
 // Slices that callers in C and Rust lend, taken for tables, a car, errors and numbers of this program, answers handed over, and the number
 // handed back where a slice has a wrong length.
+#![tactic(auto)]
+
 mod cars; // cars.rt: a car and its answer
 mod errors; // errors.rt: given errors and the permitted error
 mod slices; // slices.rt: lent slices copied

@@ -1,5 +1,7 @@
 // Fuel oil from V0 to kilograms: steps 3, 7 and 8 of document 01 in 64-bit arithmetic, each equal to its definition in `kilograms`.
 // Volumes are in 0.01 dm³, temperatures in 0.1 °C, masses in kg, water and impurities in 0.01 %.
+#![tactic(auto)]
+
 ghost use Rattle.std.specs.Prelude.{◌≡◌, ◌≤◌};
 ghost use Rattle.heating.specs.Limits.{lowest_temperature, highest_temperature, DensityInRange};
 ghost use Rattle.heating.specs.Inner.{Known};

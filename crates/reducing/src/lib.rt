@@ -1,4 +1,6 @@
 // A laboratory's density brought to 15 °C: request (d) of document 02. Densities are in 0.1 kg/m³, temperatures in 0.1 °C.
+#![tactic(auto)]
+
 ghost use Rattle.std.specs.Prelude.{◌≡◌};
 ghost use Rattle.heating.specs.Limits.{DensityInRange};
 ghost use Rattle.thermal_stored.specs.Stored.{Stored};

@@ -1,4 +1,6 @@
 // An R line that is as it should be, taken at its place with no search; most of a sheet's lines are such.
+#![tactic(auto)]
+
 ghost use Rattle.std.specs.Prelude.{◌≡◌};
 ghost use Rattle.reading.specs.Reading.{no_row, row_at};
 

@@ -1,4 +1,6 @@
 // A line of a sheet is read at its place, or turned away by the first of 3, 4, 5 and 6 that applies.
+#![tactic(auto)]
+
 ghost use Rattle.std.specs.Prelude.{◌≡◌, ◌+◌, ◌*◌, ◌≤◌, length};
 ghost use Rattle.field.specs.Field.{columns};
 ghost use Rattle.reading.specs.Letter.{most_fields};

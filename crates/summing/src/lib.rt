@@ -1,5 +1,7 @@
 // Accepted cars and their total masses, of all cars and of each grade: with one car more, whether two are the same, and whether those of all are the sums of
 // the grades'.
+#![tactic(auto)]
+
 ghost use Rattle.std.specs.Prelude.{◌≡◌, ℕ, ◌+◌, eqb};
 ghost use Rattle.base.specs.Limits.{most_cars};
 ghost use Rattle.summing.specs.Sums.{together, same_totals, same_sums, with_car};

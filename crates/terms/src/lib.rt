@@ -1,5 +1,7 @@
 // The terms of the permitted error, the limit, and whether it is within what is allowed, in 64-bit arithmetic, each equal to its
 // definition in `accuracy`. Terms are in 0.0001 %.
+#![tactic(auto)]
+
 ghost use Rattle.std.specs.Prelude.{◌≡◌, false, ◌≤◌};
 ghost use Rattle.base.specs.Answer.{first_number};
 ghost use Rattle.table.specs.Table.{later_row_bad};

@@ -1,4 +1,6 @@
 // The sums that held cars make, and the test of a train that is handed in: whether 9 applies to it, but for the sixty numbers of a full one.
+#![tactic(auto)]
+
 ghost use Rattle.std.specs.Prelude.{◌≡◌, ◌+◌, ◌≤◌, length, take};
 ghost use Rattle.base.specs.Limits.{most_cars};
 ghost use Rattle.summing.specs.Sums.{sums_of};

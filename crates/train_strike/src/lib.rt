@@ -1,4 +1,6 @@
 // Takes a car out of a train whose cars lie in arrays that are lent.
+#![tactic(auto)]
+
 ghost use Rattle.std.specs.Prelude.{◌≡◌, ◌≤◌, ◌<◌, length, take};
 ghost use Rattle.base.specs.Limits.{most_cars};
 ghost use Rattle.consist.specs.Train.{position, closed, strike_answer, strike_train};

@@ -1,0 +1,20 @@
+-- `mass::net_mass` meets its contract: the share of oil is at most all, and net is no more than gross.
+use borrow.Author.Rules.{rules}
+use mathlib.Core.Path.{◌≡◌}
+use Prim.Native.Nat.{◌≤◌}
+use native.Mathlib.Nat.{mul-le-mul_left}
+use native.Mathlib.Omega.{arith}
+use Rattle.kilograms.specs.Steps.{net}
+use Rattle.kilograms.proofs.Bounds.{net_le_gross}
+use Rattle.mass.proofs.net_mass.Goals as goal
+
+pub overflow_cast-result : goal.overflow_cast-result
+unfolding net
+overflow_cast-result c =
+    let a = c.args in
+    let e : c.round_half_up.result ≡ net a.gross a.water a.impurities = cc in
+    omega (arith, net_le_gross a.gross a.water a.impurities)
+
+pub returns : goal.returns
+unfolding net
+returns c = cc

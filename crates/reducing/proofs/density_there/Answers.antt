@@ -1,0 +1,9 @@
+-- `reducing::density_there` meets its contract.
+use native.Mathlib.Omega.{arith}
+use Rattle.thermal_stored.proofs.Known.{known}
+use Rattle.laboratory.specs.Nearest.{density_there}
+use Rattle.reducing.proofs.density_there.Goals as goal
+
+pub returns : goal.returns
+unfolding density_there
+returns c = c.density_at.ensures

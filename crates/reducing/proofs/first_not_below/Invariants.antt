@@ -1,0 +1,20 @@
+-- `reducing::first_not_below` meets its contract. The invariant: below `low` every density there is below the report, at `high` it is not,
+-- unless `high` is the last field.
+use Prim.Native.Nat.{ℕ, ◌+◌, ◌-◌, ◌/◌, ◌≤◌, ◌<◌}
+use mathlib.Core.Path.{◌≡◌}
+use native.Mathlib.Omega.{arith}
+use Rattle.heating.specs.Limits.{lowest_density, highest_density}
+use Rattle.laboratory.specs.Nearest.{density_there}
+use Rattle.laboratory.proofs.Neighbours.{mono}
+use Rattle.reducing.proofs.first_not_below.Given as goal
+
+abbrev pub invariant-loop-low : goal.invariant-loop-low
+invariant-loop-low l =
+    (lowest_density ≤ l.low)
+    × (l.low ≤ l.high)
+    × (l.high ≤ highest_density)
+    × ((s : ℕ) → lowest_density ≤ s → s < l.low → density_there l.report s < l.report.density)
+    × (l.high < highest_density → l.report.density ≤ density_there l.report l.high)
+
+abbrev pub decreases-loop-low : goal.decreases-loop-low
+decreases-loop-low l = l.high - l.low

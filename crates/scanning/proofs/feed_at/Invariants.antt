@@ -1,0 +1,14 @@
+-- `scanning::feed_at` meets its contract: the first line feed from the start is the first from the place reached.
+use borrow.Author.Rules.{rules}
+use Prim.Native.Nat.{◌-◌, ◌≤◌}
+use mathlib.Core.Path.{◌≡◌, sym, ◌∙◌}
+use lib.ListN.{length}
+use Rattle.reading.specs.Reading.{feed_at}
+use Rattle.reading.proofs.Fields.{feed_past, feed_here, feed_none}
+use Rattle.scanning.proofs.feed_at.Given as goal
+
+abbrev pub invariant-loop-i : goal.invariant-loop-i
+invariant-loop-i l = (feed_at l.s l.at ≡ feed_at l.s l.i) × (l.at ≤ l.i)
+
+abbrev pub decreases-loop-i : goal.decreases-loop-i
+decreases-loop-i l = length l.s - l.i
