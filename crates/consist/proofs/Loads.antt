@@ -23,7 +23,7 @@ use Rattle.car.specs.Exact.{distance}
 use Rattle.car.specs.Inner.{Passed}
 use Rattle.car.proofs.Accepted.{grade_known}
 use Rattle.car.proofs.Masses.{mass_most, mass_near}
-use Rattle.summing.specs.Sums.{Shown, shown_mass, of_grade, totals_of}
+use Rattle.summing.specs.Sums.{Shown, shown_mass, of_grade, totals_of, total_in}
 use Rattle.summing.proofs.Adding.{Known}
 use Rattle.consist.specs.Train.{car_shown}
 use Rattle.consist.specs.Book.{car, Load, exact_mass, loads_of_grade, load_of}
@@ -77,7 +77,7 @@ pub beside_all : (l : List Accepted) → Each Ok l → Beside (totals_of (map sh
 unfolding totals_of
 beside_all l h = record {
   count = length-map shown_for l ∙ sym (length-map load_for l);
-  near = λ k p. elim k [ gross ↦ within_weaken _ (omega arith) (all_near gross p l h) | net ↦ within_weaken _ (omega arith) (all_near net p l h) ];
+  near = λ k p. elim k as (λ m. Within 100 (distance m * length (map load_for l)) (total_in m (totals_of (map shown_for l))) (totalˣ (exact_mass m p) (map load_for l))) [ gross ↦ within_weaken _ (omega arith) (all_near gross p l h) | net ↦ within_weaken _ (omega arith) (all_near net p l h) ];
 }
 
 pub beside_grade : (g : ℕ) (l : List Accepted) → Each Ok l → Beside (totals_of (of_grade g (map shown_for l))) (loads_of_grade g (map load_for l))

@@ -1,4 +1,6 @@
 // One step in reading a sheet: what a line of each letter brings, by the refusals 7, 8 and 9.
+#![tactic(auto)]
+
 ghost use Rattle.std.specs.Prelude.{◌≡◌, List, ℕ, ◌<◌, get_or};
 ghost use Rattle.table.specs.Table.{row_of};
 ghost use Rattle.grammar.specs.Sheet.{table_line, row_line, car_line, strike_line, end_line, step_of};

@@ -6,15 +6,16 @@ use borrow.Author.Tests.{eqb-true, eqb-false, ltb-true, ltb-false}
 use Rattle.reading.proofs.Row.{row_some, row_none}
 use borrow.Author.Rules.{rules}
 use Rattle.rowline.proofs.row_at.Goals as goal
+use Rattle.rowline.proofs.row_at.Goals.{then-at-s+then-s-at-gt-ROW_FEED+then-s-at-eq82+then-s-at-eq10+then-first-le-LARGEST+else-second-le-LARGEST, then-at-s+then-s-at-gt-ROW_FEED+then-s-at-eq82+then-s-at-eq10+else-first-le-LARGEST, else-at-s, else-at-s-via-then-at-s+then-s-at-gt-ROW_FEED+then-s-at-eq82+else-s-at-eq10, else-at-s-via-then-at-s+then-s-at-gt-ROW_FEED+else-s-at-eq82, else-at-s-via-then-at-s+else-s-at-gt-ROW_FEED, else-at-s-via-else-at-s}
 
 pub returns-then-second-le-LARGEST : goal.returns-then-second-le-LARGEST
 returns-then-second-le-LARGEST c =
     let a = c.args in
     rw (c.short_field-first.ensures, c.long_field-second.ensures)
     (row_some a.s.now a.at (record {
-      letter = eqb-true _ _ c.if-s-at-eq82.true;
-      room = omega (arith, ltb-true);
-      feed = eqb-true _ _ c.if-s-at-eq10.true;
+      letter = c.if-s-at-eq82.true;
+      room = omega arith;
+      feed = c.if-s-at-eq10.true;
       level = omega (arith, c.short_field-first.ensures);
       capacity = omega (arith, c.long_field-second.ensures);
     }))
@@ -24,14 +25,13 @@ returns c =
     let a = c.args in
     c.no_row.ensures
     ∙ row_none a.s.now a.at
-    (λ h.
-    ⊎_elim
-    (λ w. omega (arith, w.8.ensures))
-    (⊎_elim
-    (λ w. omega (arith, w.6.ensures))
-    (λ w.
-    ⊎_elim
-    (λ v. eqb-false _ _ v.5.left h.feed)
-    (⊎_elim (λ v. eqb-false _ _ v.3.left h.letter) (⊎_elim (λ v. omega (arith, ltb-false)) (λ v. omega arith)))
-    w.came))
-    c.if-at-s.branch)
+    (λ h. elim c.if-at-s.branch [
+      | then-at-s+then-s-at-gt-ROW_FEED+then-s-at-eq82+then-s-at-eq10+then-first-le-LARGEST+else-second-le-LARGEST w ↦ omega (arith, w.long_field-second.ensures)
+      | then-at-s+then-s-at-gt-ROW_FEED+then-s-at-eq82+then-s-at-eq10+else-first-le-LARGEST w ↦ omega (arith, w.short_field-first.ensures)
+      | else-at-s w ↦ elim w.else-at-s.branch [
+        | else-at-s-via-then-at-s+then-s-at-gt-ROW_FEED+then-s-at-eq82+else-s-at-eq10 v ↦ v.if-s-at-eq10.false h.feed
+        | else-at-s-via-then-at-s+then-s-at-gt-ROW_FEED+else-s-at-eq82 v ↦ v.if-s-at-eq82.false h.letter
+        | else-at-s-via-then-at-s+else-s-at-gt-ROW_FEED v ↦ omega arith
+        | else-at-s-via-else-at-s v ↦ omega arith
+      ]
+    ])

@@ -19,7 +19,7 @@ loop-j-preserved c =
       search rules,
       i.1,
       i.2,
-      ap (λ (x : List ℕ). set x (a.at + c.loop-j.j) (get_or a.t3 c.loop-j.j 0)) i.3
-          ∙ paste-suc a.fields.now a.at a.t3 c.loop-j.j 0 (omega arith) (omega arith)
-          ∙ ap (paste a.fields.now a.at a.t3) (sym (add-one c.loop-j.j)),
+      ap (λ (x : List ℕ). set x (a.at + c.loop-j.j) (get_or a.numbers c.loop-j.j 0)) i.3
+          ∙ paste-suc a.fields.now a.at a.numbers c.loop-j.j 0 (omega arith) (omega arith)
+          ∙ ap (paste a.fields.now a.at a.numbers) (sym (add-one c.loop-j.j)),
     )

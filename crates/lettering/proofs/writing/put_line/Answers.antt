@@ -24,8 +24,8 @@ loop-j-preserved c =
     let a = c.args in
     let n = fourteen (goal.at.loop-j-preserved c).Start in (
       search rules,
-      omega (arith, c.write_field.auto.0),
-      c.write_field.auto.0 ∙ c.loop-j.invariant.2,
+      omega (arith, c.write_field.auto.out),
+      c.write_field.auto.out ∙ c.loop-j.invariant.2,
       write_more _ (a.at + 1) c.loop-j.j a.line.numbers c.loop-j.out _ (omega arith)
           (small_at a.line.numbers _ c.requires.1 c.loop-j.j (omega (arith, c.count_of-k.ensures.0))) (omega (arith, c.loop-j.invariant)) c.loop-j.invariant.2 c.loop-j.invariant.3
           c.write_field.ensures.1,

@@ -10,9 +10,8 @@ fourteen : (c : Start) → length c.args.line.numbers ≡ 14
 fourteen c = search rules
 
 pub returns : goal.returns
-returns c =
-    (
-      c.write_line_at.ensures.0,
-      c.write_line_at.ensures.1,
-      rw c.write_line_at.ensures.1 (written_reads_back c.args.line c.args.out.now (fourteen (goal.at.returns c).Start)),
-    )
+returns c = (
+  c.write_line_at.ensures.0,
+  c.write_line_at.ensures.1,
+  rw c.write_line_at.ensures.1 (written_reads_back c.args.line c.args.out.now (fourteen (goal.at.returns c).Start)),
+)
