@@ -1,4 +1,6 @@
 // Enters a car in a train whose cars lie in arrays that are lent.
+#![tactic(auto)]
+
 ghost use Rattle.std.specs.Prelude.{◌≡◌, ◌≤◌, ◌<◌};
 ghost use Rattle.base.specs.Limits.{most_cars};
 ghost use Rattle.base.specs.Answer.{first_number};

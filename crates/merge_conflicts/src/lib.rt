@@ -1,4 +1,6 @@
 // What keeps two sheets from becoming one: refusals 33 and 34.
+#![tactic(auto)]
+
 mod held; // held.rt: the types and the numbers of the cars held
 mod rows; // rows.rt: the rows of tables of the same type
 

@@ -1,4 +1,6 @@
 // The cars that a sheet still holds behind its last line, by the numbers of its C and K lines.
+#![tactic(auto)]
+
 ghost use Rattle.std.specs.Prelude.{◌≤◌};
 ghost use Rattle.merge_held.specs.Inner.{most_lines, HeldIn};
 

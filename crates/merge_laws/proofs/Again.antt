@@ -28,7 +28,7 @@ use Rattle.merge_laws.proofs.Counting.{types_counted}
 use Rattle.merge_laws.proofs.Swap.{rows_fine, numbers_fine}
 
 -- No car of a sheet lacks a type that a part of its own tables has.
-types-here : (ts us : List Table) → ((t : Table) → In t us → In t ts) → (cars : List (List ℕ)) → type_elsewhere ts us cars ≡ false
+types_here : (ts us : List Table) → ((t : Table) → In t us → In t ts) → (cars : List (List ℕ)) → type_elsewhere ts us cars ≡ false
 types_here ts us h [] = refl
 types_here ts us h (x ∷ cars) = ap₂ (λ (a b : Bool). a || b) (go (unknown (kind_of x) ts) refl) (types_here ts us h cars)
   where

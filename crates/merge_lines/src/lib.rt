@@ -1,4 +1,6 @@
 // What a merged sheet is written of: C and E lines made of their numbers, and bytes of a sheet copied.
+#![tactic(auto)]
+
 mod copy; // copy.rt: bytes of a sheet copied
 mod lines; // lines.rt: C and E lines
 

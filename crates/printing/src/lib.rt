@@ -1,4 +1,6 @@
 // The lines of an answer, made and written one after another into a lent buffer.
+#![tactic(auto)]
+
 ghost use Rattle.std.specs.Prelude.{◌≡◌, true, [], ◌∷◌, ◌+◌, ◌≤◌, length};
 ghost use Rattle.base.specs.Buffer.{put};
 ghost use Rattle.base.specs.Limits.{largest};

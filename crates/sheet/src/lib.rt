@@ -1,4 +1,6 @@
 // A whole sheet: one to four tables, each a T line and its R lines, then up to 120 C lines and sixty K lines, then E.
+#![tactic(auto)]
+
 ghost use Rattle.std.specs.Prelude.{◌≡◌, length};
 ghost use Rattle.grammar.specs.Sheet.{sheet_of};
 ghost use Rattle.grammar.specs.Proper.{Proper};

@@ -1,4 +1,6 @@
 // A car worked out alone, and the running train.
+#![tactic(auto)]
+
 use base::MOST_CARS;
 use car::CarAnswer;
 use summing::Sums;

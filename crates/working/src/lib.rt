@@ -1,4 +1,6 @@
 // A car worked out on capacity tables that are not refused: its refusals in the listed order, then its six figures.
+#![tactic(auto)]
+
 ghost use Rattle.std.specs.Prelude.{◌≡◌, false, List, ℕ, ◌≤◌};
 ghost use Rattle.base.specs.Answer.{accepts, first, first_number, answer};
 ghost use Rattle.base.specs.Limits.{highest_level, in_tenths};

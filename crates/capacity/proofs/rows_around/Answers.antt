@@ -139,7 +139,7 @@ refused : {ts : List Table} {kind level n : ℕ} {r : Around} → r ≡ Refused 
 refused h e = record { told = e; between = λ n k. never (cc) }
 
 pub bounds-types-k : goal.bounds-types-k
-bounds-types-k c = omega (arith, known (goal.at.bounds-types-k c).In-tables-unread)
+bounds-types-k c = omega (arith, good_table c.requires c.tables.k c.tables-test.true)
 
 pub bounds-rows-k : goal.bounds-rows-k
 bounds-rows-k c = omega (arith, known (goal.at.bounds-rows-k c).In-tables)

@@ -27,4 +27,4 @@ returns c = λ l d.
     let more : a.reader.cars + 1 + a.reader.struck ≡ n + 1 = omega arith in
     let h = c.if-cars-ge-MOST_CAR_LINES.false in
     car_taken (state_in a.reader l d a.fields.now) a.numbers _ (lt-leb _ _ h)
-    (ap₂ (λ (x : List ℕ) (i : ℕ). history_from x 0 i) c.Store-Line.ensures.0 more ∙ line_more a.fields.now (car_mark ∷ a.numbers) n (omega (arith, fourteen)) (omega (arith, h, c.Store-Line.ensures.1, c.requires.few_strikes)))
+    (ap₂ (λ (x : List ℕ) (i : ℕ). history_from x 0 i) c.store_line.ensures.0 more ∙ line_more a.fields.now (car_mark ∷ a.numbers) n (omega (arith, fourteen)) (omega (arith, h, c.store_line.ensures.1, c.requires.few_strikes)))

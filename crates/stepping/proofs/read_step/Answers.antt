@@ -21,7 +21,7 @@ use Rattle.holding.proofs.Arrays.{due_held}
 use Rattle.grammar.proofs.Steps.{step_read, row_owed}
 use borrow.Author.Rules.{rules}
 use Rattle.stepping.proofs.read_step.Goals as goal
-use Rattle.stepping.proofs.read_step.Goals.{After-read_line_at-line, In-Read, Start}
+use Rattle.stepping.proofs.read_step.Goals.{After-read_line_at-line, In-Read}
 
 -- the letters of an answer, by their places in the enum: none of them is found
 abbrev answers : List ℕ
@@ -32,55 +32,51 @@ none_found b due l =
     found (λ m. OneOf answers (tag_of the_type m) → ⊥) b l due
     ((λ _ _. miss answers 0 tt), ((λ _ _. miss answers 1 tt), ((λ _ _. miss answers 2 tt), ((λ _ _. miss answers 3 tt), ((λ _ _. miss answers 4 tt), tt)))))
 
--- the state that is handed in
-abbrev given : Start → State
-given z = state_in z.args.reader z.args.levels.now z.args.capacities.now z.args.fields.now
-
 -- the line that was read is the definition's
 read : (c : After-read_line_at-line) →
-    c.read_line_at-line.result ≡ line_at c.args.s.now c.args.reader.at (due_of (given c.before.before.before.before.before))
+    c.read_line_at-line.result ≡ line_at c.args.s.now c.args.reader.at (due_of ((state_in c.args.reader c.args.levels.now c.args.capacities.now c.args.fields.now)))
 read c =
     c.read_line_at-line.ensures
     ∙ ap (λ (d : Due). line_at c.args.s.now c.args.reader.at d)
     (c.due_of-due.ensures ∙ due_held c.args.reader c.args.levels.now c.args.capacities.now c.args.fields.now)
 
 -- what the letter that was found brings
-step : (c : In-Read) (l : Letter) →
-    c.in-Read.letter ≡ l
-    → by_letter (length c.args.s.now) (given c.before.before.before.before.before.before.before) l c.read_line_at-line.result.numbers ≡ step_of c.args.s.now (given c.before.before.before.before.before.before.before)
-step c l e =
-    step_read c.args.s.now (given c.before.before.before.before.before.before.before) c.read_line_at-line.result (read c.before.before) (Read l) (c.in-Read.is ∙ ap Read e)
+step : (c : In-Read) (l : Letter) → c.read_line_at-line.result ≡ line_at c.args.s.now c.args.reader.at (due_of (state_in c.args.reader c.args.levels.now c.args.capacities.now c.args.fields.now))
+    → c.in-Read.letter ≡ l
+    → by_letter (length c.args.s.now) ((state_in c.args.reader c.args.levels.now c.args.capacities.now c.args.fields.now)) l c.read_line_at-line.result.numbers ≡ step_of c.args.s.now ((state_in c.args.reader c.args.levels.now c.args.capacities.now c.args.fields.now))
+step c l r e =
+    step_read c.args.s.now ((state_in c.args.reader c.args.levels.now c.args.capacities.now c.args.fields.now)) c.read_line_at-line.result r (Read l) (c.in-Read.is ∙ ap Read e)
 
 pub row_line-requires : goal.row_line-requires
 row_line-requires c =
-    let o = row_owed c.args.s.now (given (goal.at.row_line-requires c).Start) c.read_line_at-line.result (read (goal.at.row_line-requires c).After-read_line_at-line) (c.in-Read.is ∙ ap Read c.in-Row.is) in
+    let o = row_owed c.args.s.now ((state_in c.args.reader c.args.levels.now c.args.capacities.now c.args.fields.now)) c.read_line_at-line.result (read (goal.at.row_line-requires c).After-read_line_at-line) (c.in-Read.is ∙ ap Read c.in-Row.is) in
     (c.requires, o, c.requires.owing o)
 
 pub returns-in-Table : goal.returns-in-Table
 returns-in-Table c =
-    c.table_line.ensures c.args.levels.now c.args.capacities.now c.args.fields.now ∙ step (goal.at.returns-in-Table c).In-Read T c.in-Table.is
+    c.table_line.ensures c.args.levels.now c.args.capacities.now c.args.fields.now ∙ step (goal.at.returns-in-Table c).In-Read T (read (goal.at.returns-in-Table c).After-read_line_at-line) c.in-Table.is
 
 pub returns-in-Row : goal.returns-in-Row
 returns-in-Row c =
-    c.row_Line.ensures c.args.fields.now ∙ step (goal.at.returns-in-Row c).In-Read R c.in-Row.is
+    c.row_line.ensures c.args.fields.now ∙ step (goal.at.returns-in-Row c).In-Read R (read (goal.at.returns-in-Row c).After-read_line_at-line) c.in-Row.is
 
 pub returns-in-Car : goal.returns-in-Car
 returns-in-Car c =
-    c.car_line.ensures c.args.levels.now c.args.capacities.now ∙ step (goal.at.returns-in-Car c).In-Read C c.in-Car.is
+    c.car_line.ensures c.args.levels.now c.args.capacities.now ∙ step (goal.at.returns-in-Car c).In-Read C (read (goal.at.returns-in-Car c).After-read_line_at-line) c.in-Car.is
 
 pub returns-in-Strike : goal.returns-in-Strike
 returns-in-Strike c =
-    c.strike_line.ensures c.args.levels.now c.args.capacities.now ∙ step (goal.at.returns-in-Strike c).In-Read K c.in-Strike.is
+    c.strike_line.ensures c.args.levels.now c.args.capacities.now ∙ step (goal.at.returns-in-Strike c).In-Read K (read (goal.at.returns-in-Strike c).After-read_line_at-line) c.in-Strike.is
 
 pub returns-in-End : goal.returns-in-End
 returns-in-End c =
-    c.end_line.ensures c.args.levels.now c.args.capacities.now c.args.fields.now ∙ step (goal.at.returns-in-End c).In-Read E c.in-End.is
+    c.end_line.ensures c.args.levels.now c.args.capacities.now c.args.fields.now ∙ step (goal.at.returns-in-End c).In-Read E (read (goal.at.returns-in-End c).After-read_line_at-line) c.in-End.is
 
 pub returns-in_default : goal.returns-in_default
 returns-in_default c =
     let l = c.in-Read.letter in
-    absurd (none_found _ _ l (is_line c.args.s.now c.args.reader.at (due_of (given (goal.at.returns-in_default c).Start)) l (ap (λ (x : LineRead). x.reading) (sym (read (goal.at.returns-in_default c).After-read_line_at-line)) ∙ c.in-Read.is)).found c.in_default.keys6)
+    absurd (none_found _ _ l (is_line c.args.s.now c.args.reader.at (due_of ((state_in c.args.reader c.args.levels.now c.args.capacities.now c.args.fields.now))) l (ap (λ (x : LineRead). x.reading) (sym (read (goal.at.returns-in_default c).After-read_line_at-line)) ∙ c.in-Read.is)).found c.in_default.in_default-own.keys6)
 
 pub returns-in-Refused : goal.returns-in-Refused
 returns-in-Refused c =
-    c.refused_here-in-Refused.ensures c.args.levels.now c.args.capacities.now c.args.fields.now ∙ step_read c.args.s.now (given (goal.at.returns-in-Refused c).Start) c.read_line_at-line.result (read (goal.at.returns-in-Refused c).After-read_line_at-line) (Refused _) c.in-Refused.is
+    c.refused_here-in-Refused.ensures c.args.levels.now c.args.capacities.now c.args.fields.now ∙ step_read c.args.s.now ((state_in c.args.reader c.args.levels.now c.args.capacities.now c.args.fields.now)) c.read_line_at-line.result (read (goal.at.returns-in-Refused c).After-read_line_at-line) (Refused _) c.in-Refused.is

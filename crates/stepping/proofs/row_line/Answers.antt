@@ -23,7 +23,7 @@ test : (c : After-row_bad) →
     let a = c.args in
     row_bad (last_rows (state_in a.reader a.levels.now a.capacities.now a.levels.now).tables) (row_of a.level a.capacity) ≡ c.row_bad.result
 test c =
-    let a = z.args in
+    let a = c.args in
     let h = a.reader.directory in
     ap (λ (x : List Row). row_bad x (row_of a.level a.capacity)) (rows_held h.types h.rows a.levels.now a.capacities.now (h.count - 1) h.count (omega arith))
     ∙ sym c.row_bad.ensures
@@ -36,9 +36,9 @@ returns-then-row_bad c = λ f.
 
 pub returns : goal.returns
 returns c = λ f.
-    let a = z.args in
+    let a = c.args in
     let h = a.reader.directory in
     let len = four (goal.at.returns c).After-directory-1 in
     row_taken (state_in a.reader a.levels.now a.capacities.now f) (row_of a.level a.capacity) _ (test (goal.at.returns c).After-row_bad ∙ c.if-row_bad.false)
     (row_more h.types h.rows a.levels.now a.capacities.now _ _ h.count (h.count - 1) _ a.level a.capacity (omega arith) refl (omega arith)
-    (λ j i. z.requires.2.each j (omega arith)) c.store_row.ensures)
+    (λ j i. c.requires.2.each j (omega arith)) c.store_row.ensures)

@@ -27,4 +27,4 @@ returns c = λ l d.
     let more : a.reader.cars + (a.reader.struck + 1) ≡ n + 1 = omega arith in
     let h = c.if-struck-ge-MOST_STRIKES.false in
     strike_taken (state_in a.reader l d a.fields.now) (get_or a.numbers 0 0) _ (lt-leb _ _ h)
-    (ap₂ (λ (x : List ℕ) (i : ℕ). history_from x 0 i) c.Store-Line.ensures.0 more ∙ line_more a.fields.now (strike_mark ∷ a.numbers) n (omega (arith, fourteen)) (omega (arith, h, c.Store-Line.ensures.1, c.requires.few_cars)))
+    (ap₂ (λ (x : List ℕ) (i : ℕ). history_from x 0 i) c.store_line.ensures.0 more ∙ line_more a.fields.now (strike_mark ∷ a.numbers) n (omega (arith, fourteen)) (omega (arith, h, c.store_line.ensures.1, c.requires.few_cars)))

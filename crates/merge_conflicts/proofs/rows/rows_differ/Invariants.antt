@@ -1,0 +1,21 @@
+-- `merge_conflicts::rows_differ` meets its contract: the tables not yet passed tell of all.
+use Prim.Native.Nat.{ℕ, ◌+◌, ◌-◌}
+use mathlib.Core.Path.{◌≡◌, ap, sym, ◌∙◌}
+use mathlib.Core.Bool.{Bool, ◌||◌}
+use mathlib.Core.List.{List}
+use Rattle.table.specs.Table.{Table}
+use Rattle.table.specs.Layout.{tables_from, tables_of}
+use Rattle.table.proofs.Arrays.{good_table}
+use Rattle.merge_spec.specs.Merge.{rows_differ}
+use Rattle.merge_conflicts.proofs.Comparing.{differ_first, differ_step, differ_last}
+use borrow.Author.Rules.{rules}
+use native.Mathlib.Omega.{arith}
+use Rattle.merge_conflicts.proofs.rows.rows_differ.Given as goal
+
+abbrev pub invariant-loop-k : goal.invariant-loop-k
+invariant-loop-k l =
+    rows_differ (tables_from l.types l.rows l.levels l.capacities 0 l.count) (tables_of l.e l.levels2 l.capacities2)
+    ≡ rows_differ (tables_from l.types l.rows l.levels l.capacities l.k (l.count - l.k)) (tables_of l.e l.levels2 l.capacities2)
+
+abbrev pub decreases-loop-k : goal.decreases-loop-k
+decreases-loop-k l = l.count - l.k

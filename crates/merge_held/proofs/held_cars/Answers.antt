@@ -1,0 +1,19 @@
+-- `merge_held::held_cars` meets its contract: each turn keeps a car, turns it away, or takes one out.
+use Prim.Native.Nat.{◌-◌}
+use mathlib.Core.Path.{refl}
+use borrow.Author.Rules.{rules}
+use Rattle.merge_held.proofs.Keeping.{Keeping, keeping_none, keeping_car, keeping_strike, keeping_all}
+use Rattle.merge_held.proofs.held_cars.Goals as goal
+use Rattle.merge_held.proofs.held_cars.Goals.{then-mark-eq-CAR_MARK, else-mark-eq-CAR_MARK}
+
+pub loop-i-preserved : goal.loop-i-preserved
+loop-i-preserved c =
+    let a = c.args in
+    let k = c.loop-i.invariant in
+    let h = c.loop-i-test.true in
+    elim c.if-mark-eq-CAR_MARK.branch [
+      | then-mark-eq-CAR_MARK w ↦ let e = w.enter-count.ensures in
+          rw (w.numbers-is, w.places-is, w.count-is) (keeping_car a.fields.now a.n c.requires c.loop-i.numbers c.loop-i.places c.loop-i.count c.loop-i.i k h e.2 w.if-mark-eq-CAR_MARK.true e.0 e.1)
+      | else-mark-eq-CAR_MARK w ↦ let e = w.strike-count.ensures in
+          rw (w.numbers-is, w.places-is, w.count-is) (keeping_strike a.fields.now a.n c.requires c.loop-i.numbers c.loop-i.places c.loop-i.count c.loop-i.i k h e.2 w.if-mark-eq-CAR_MARK.false e.0 e.1)
+    ]

@@ -1,0 +1,15 @@
+-- `merge_lines::copy::copy_bytes` meets its contract: each turn copies a byte.
+use Prim.Native.Nat.{◌+◌, ◌-◌, ◌≤◌}
+use mathlib.Core.Path.{◌≡◌, refl, ◌∙◌}
+use native.Mathlib.Omega.{arith}
+use lib.ListN.{length, get_or, take, drop, length-set}
+use borrow.Author.Rules.{rules}
+use Rattle.base.specs.Buffer.{put}
+use Rattle.merge_lines.proofs.Bytes.{copied_none, copied_next}
+use Rattle.merge_lines.proofs.copy.copy_bytes.Given as goal
+
+abbrev pub invariant-loop-i : goal.invariant-loop-i
+invariant-loop-i l = (l.i ≤ l.n) × (length l.out ≡ length l.initial.out) × (l.out ≡ put l.initial.out l.at (take l.i (drop l.from l.text)))
+
+abbrev pub decreases-loop-i : goal.decreases-loop-i
+decreases-loop-i l = l.n - l.i

@@ -1,0 +1,21 @@
+-- `printing::append_line` meets its contract: a line that has room is written.
+use Prim.Native.Nat.{◌+◌}
+use mathlib.Core.Path.{ap, ◌∙◌}
+use native.Mathlib.Omega.{arith}
+use Rattle.printing.proofs.Appending.{laid_width, never_refused, laid_bytes, fits}
+use borrow.Author.Rules.{rules}
+use Rattle.printing.proofs.append_line.Goals as goal
+
+pub overflow_add-result : goal.overflow_add-result
+overflow_add-result c =
+    omega (arith, laid_width c.args.text c.args.at c.args.out.now c.requires c.write_line_at.ensures.0 c.in-Length.is, fits c.args.text c.args.at c.args.out.now c.requires)
+
+pub returns-in-Length : goal.returns-in-Length
+returns-in-Length c = (
+  ap (λ n. c.args.at + n) (laid_width c.args.text c.args.at c.args.out.now c.requires c.write_line_at.ensures.0 c.in-Length.is),
+  c.write_line_at.ensures.1 ∙ laid_bytes c.args.text c.args.at c.args.out.now c.requires,
+)
+
+pub returns-in-Refused : goal.returns-in-Refused
+returns-in-Refused c =
+    never_refused c.args.text c.args.at c.args.out.now c.requires c.write_line_at.ensures.0 c.in-Refused.is

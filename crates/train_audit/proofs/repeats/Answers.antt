@@ -1,0 +1,21 @@
+-- `train_audit::repeats` meets its contract: of the numbers that were passed none stands twice.
+use Prim.Native.Nat.{◌-◌, ◌≤◌}
+use mathlib.Core.Path.{◌≡◌, refl, sym, ◌∙◌}
+use mathlib.Core.Bool.{false}
+use native.Mathlib.Omega.{arith}
+use lib.ListN.{length, take}
+use borrow.Author.Rules.{rules}
+use Rattle.base.specs.Limits.{most_cars}
+use Rattle.consist.specs.Train.{twice}
+use Rattle.consist.proofs.Places.{twice_hit, twice_miss}
+use Rattle.train_audit.proofs.repeats.Goals as goal
+
+pub returns-then-holds : goal.returns-then-holds
+returns-then-holds c =
+    let n : length c.args.numbers.now ≡ most_cars = c.requires.1 in
+    twice_hit c.args.numbers.now c.loop-i.i (omega (arith, c.requires.0, c.loop-i-test.true)) c.args.n c.loop-i-test.true (sym c.holds.ensures ∙ c.if-holds.true)
+
+pub loop-i-preserved : goal.loop-i-preserved
+loop-i-preserved c =
+    let n : length c.args.numbers.now ≡ most_cars = c.requires.1 in
+    (omega arith, twice_miss c.args.numbers.now c.loop-i.i (omega (arith, c.requires.0, c.loop-i-test.true)) (sym c.holds.ensures ∙ c.if-holds.false) c.loop-i.invariant.1)
