@@ -1,4 +1,6 @@
 // The permitted error beside the mass of a car by itself: its refusals and its six figures, 24 and 25, then the limit.
+#![tactic(auto)]
+
 ghost use Rattle.std.specs.Prelude.{◌≡◌, ◌≤◌};
 ghost use Rattle.table.specs.Layout.{tables_of};
 ghost use Rattle.thermal_stored.specs.Inner.{LookedUp};

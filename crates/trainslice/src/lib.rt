@@ -1,4 +1,6 @@
 // How a train lies in a slice of numbers: read from it, and written into it.
+#![tactic(auto)]
+
 ghost use Rattle.std.specs.Prelude.{◌≡◌, ◌+◌, ◌≤◌, length};
 ghost use Rattle.base.specs.Buffer.{put};
 ghost use Rattle.base.specs.Limits.{most_cars};

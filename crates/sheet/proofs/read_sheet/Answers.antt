@@ -18,16 +18,16 @@ use Rattle.sheet.proofs.read_sheet.Goals as goal
 use Rattle.sheet.proofs.read_sheet.Goals.{After-take_rows-taken, In-Next}
 
 on : (c : After-take_rows-taken) →
-    Onward c.args.s.now (state_in c.loop-outcome.reader c.loop-outcome.levels c.loop-outcome.capacities c.loop-outcome.fields) ((state_in c.take_rows-taken.result c.take_rows-taken.new.levels.1.0 c.take_rows-taken.new.levels.1.1.0 c.loop-outcome.fields))
+    Onward c.args.s.now (state_in c.loop-outcome.reader c.loop-outcome.levels c.loop-outcome.capacities c.loop-outcome.fields) ((state_in c.take_rows-taken.result c.take_rows-taken.new.levels c.take_rows-taken.new.capacities c.loop-outcome.fields))
 on c = c.take_rows-taken.ensures c.loop-outcome.fields
 
 -- one more line is due
 next : (c : In-Next) →
     let s = c.args.s.now in
-    SoundState (length s) ((state_in c.read_step-step.result.reader c.read_step-step.new.1.1.0 c.read_step-step.new.1.1.1.0 c.read_step-step.new.1.1.1.1.0)) × (((state_in c.take_rows-taken.result c.take_rows-taken.new.1.1.0 c.take_rows-taken.new.1.1.1.0 c.loop-outcome.fields)).at < ((state_in c.read_step-step.result.reader c.read_step-step.new.1.1.0 c.read_step-step.new.1.1.1.0 c.read_step-step.new.1.1.1.1.0)).at) × (read_from s ((state_in c.read_step-step.result.reader c.read_step-step.new.1.1.0 c.read_step-step.new.1.1.1.0 c.read_step-step.new.1.1.1.1.0)) ≡ read_from s ((state_in c.take_rows-taken.result c.take_rows-taken.new.1.1.0 c.take_rows-taken.new.1.1.1.0 c.loop-outcome.fields))) × LinesRead s ((state_in c.read_step-step.result.reader c.read_step-step.new.1.1.0 c.read_step-step.new.1.1.1.0 c.read_step-step.new.1.1.1.1.0))
+    SoundState (length s) ((state_in c.read_step-step.result.reader c.read_step-step.new.levels c.read_step-step.new.capacities c.read_step-step.new.fields)) × (((state_in c.take_rows-taken.result c.take_rows-taken.new.levels c.take_rows-taken.new.capacities c.loop-outcome.fields)).at < ((state_in c.read_step-step.result.reader c.read_step-step.new.levels c.read_step-step.new.capacities c.read_step-step.new.fields)).at) × (read_from s ((state_in c.read_step-step.result.reader c.read_step-step.new.levels c.read_step-step.new.capacities c.read_step-step.new.fields)) ≡ read_from s ((state_in c.take_rows-taken.result c.take_rows-taken.new.levels c.take_rows-taken.new.capacities c.loop-outcome.fields))) × LinesRead s ((state_in c.read_step-step.result.reader c.read_step-step.new.levels c.read_step-step.new.capacities c.read_step-step.new.fields))
 next c =
     let s = c.args.s.now in
-    let e = ap (λ (x : Progress). step_by x ((state_in c.read_step-step.result.reader c.read_step-step.new.1.1.0 c.read_step-step.new.1.1.1.0 c.read_step-step.new.1.1.1.1.0))) c.in-Next.is in
+    let e = ap (λ (x : Progress). step_by x ((state_in c.read_step-step.result.reader c.read_step-step.new.levels.1.0 c.read_step-step.new.levels.1.1.0 c.read_step-step.new.levels.1.1.1.0))) c.in-Next.is in
     let p = step_by c.read_step-step.result.progress ((state_in c.read_step-step.result.reader c.read_step-step.new.1.1.0 c.read_step-step.new.1.1.1.0 c.read_step-step.new.1.1.1.1.0)) in
     let w = went_on s ((state_in c.take_rows-taken.result c.take_rows-taken.new.1.1.0 c.take_rows-taken.new.1.1.1.0 c.loop-outcome.fields)) p c.read_step-step.ensures (on c.before.before.before.before.before.before.before).sound ((state_in c.read_step-step.result.reader c.read_step-step.new.1.1.0 c.read_step-step.new.1.1.1.0 c.read_step-step.new.1.1.1.1.0)) e in
     (w.0, w.1, w.2, read_next s ((state_in c.take_rows-taken.result c.take_rows-taken.new.1.1.0 c.take_rows-taken.new.1.1.1.0 c.loop-outcome.fields)) p c.read_step-step.ensures (on c.before.before.before.before.before.before.before).sound ((on c.before.before.before.before.before.before.before).read c.loop-outcome.invariant.3) ((state_in c.read_step-step.result.reader c.read_step-step.new.1.1.0 c.read_step-step.new.1.1.1.0 c.read_step-step.new.1.1.1.1.0)) e)
@@ -61,7 +61,7 @@ take_rows-taken-requires c =
 
 pub read_step-step-requires : goal.read_step-step-requires
 read_step-step-requires c =
-    bounded (length c.args.s.now) c.take_rows-taken.result c.take_rows-taken.new.1.1.0 c.take_rows-taken.new.1.1.1.0 c.loop-outcome.fields c.loop-outcome.invariant.1 (on (goal.at.read_step-step-requires c).After-take_rows-taken).sound
+    bounded (length c.args.s.now) c.take_rows-taken.result c.take_rows-taken.new.levels c.take_rows-taken.new.capacities c.loop-outcome.fields c.loop-outcome.invariant.1 (on (goal.at.read_step-step-requires c).After-take_rows-taken).sound
 
 pub loop-outcome-smaller : goal.loop-outcome-smaller
 loop-outcome-smaller c =
@@ -79,11 +79,11 @@ returns-in-Over c =
     let s = c.args.s.now in
     let h = c.read_step-step.result.reader in
     let o = c.in-Over.outcome in
-    let st = (state_in c.read_step-step.result.reader c.read_step-step.new.1.1.0 c.read_step-step.new.1.1.1.0 c.read_step-step.new.1.1.1.1.0) in
+    let st = (state_in c.read_step-step.result.reader c.read_step-step.new.levels c.read_step-step.new.capacities c.read_step-step.new.fields) in
     let p = step_by c.read_step-step.result.progress st in
     let told = outcome_told o st.tables st.history in
     let e = ap (λ (x : Progress). step_by x st) c.in-Over.is in
-    finish s (record { outcome = o; directory = h.directory; cars = h.cars; struck = h.struck }) c.read_step-step.new.1.1.0 c.read_step-step.new.1.1.1.0 c.read_step-step.new.1.1.1.1.0
+    finish s (record { outcome = o; directory = h.directory; cars = h.cars; struck = h.struck }) c.read_step-step.new.levels.1.0 c.read_step-step.new.levels.1.1.0 c.read_step-step.new.levels.1.1.1.0
     (is_over s ((state_in c.take_rows-taken.result c.take_rows-taken.new.1.1.0 c.take_rows-taken.new.1.1.1.0 c.loop-outcome.fields)) p c.read_step-step.ensures (on (goal.at.returns-in-Over c).After-take_rows-taken).sound st told e ∙ (on (goal.at.returns-in-Over c).After-take_rows-taken).same ∙ c.loop-outcome.invariant.2)
     (λ line number z.
     let x = read_over s ((state_in c.take_rows-taken.result c.take_rows-taken.new.1.1.0 c.take_rows-taken.new.1.1.1.0 c.loop-outcome.fields)) p c.read_step-step.ensures (on (goal.at.returns-in-Over c).After-take_rows-taken).sound ((on (goal.at.returns-in-Over c).After-take_rows-taken).read c.loop-outcome.invariant.3) st told e in

@@ -26,8 +26,8 @@ loop-i-preserved c =
     let a = c.args in
     c_laid a.first.now a.second.now a.order.now a.count a.out.now a.at c.loop-i.out c.loop-i.place c.loop-i.i
     c.loop-i.invariant c.loop-i-test.true
-    c.line_by.result c.append_line-place.new.0 c.append_line-place.result c.line_by.ensures c.append_line-place.ensures.1
-    c.append_line-place.ensures.0 c.append_line-place.auto.0
+    c.line_by.result c.append_line-place.new.out c.append_line-place.result c.line_by.ensures c.append_line-place.ensures.1
+    c.append_line-place.ensures.0 c.append_line-place.auto.out
 
 pub returns : goal.returns
 returns c =

@@ -15,4 +15,4 @@ loop-i-preserved c =
     let a = c.args in
     table_laid a.d a.first.now a.e a.second.now a.order.now a.count
     a.out.now a.at c.loop-i.out c.loop-i.place c.loop-i.i c.loop-i.invariant c.loop-i-test.true
-    c.copy_by-place.new.0 c.copy_by-place.result c.copy_by-place.ensures.1 c.copy_by-place.ensures.0 c.copy_by-place.auto.0
+    c.copy_by-place.new.out c.copy_by-place.result c.copy_by-place.ensures.1 c.copy_by-place.ensures.0 c.copy_by-place.auto.out

@@ -17,5 +17,5 @@ loop-owed-preserved c =
     let q = c.next_row-p.ensures c.if-p.true in (
       i.0,
       taken_more a.s.now a.reader a.levels.now a.capacities.now (a.reader.directory.count - 1) c.loop-owed.levels c.loop-owed.capacities c.loop-owed.rows c.loop-owed.level c.loop-owed.capacity c.loop-owed.at c.loop-owed.line c.loop-owed.owed
-          c.store_row.new.0 c.store_row.new.1.0 p.first p.second i.1 c.loop-owed-test.true q.0 q.1 c.store_row.ensures,
+          c.store_row.new.levels c.store_row.new.capacities p.first p.second i.1 c.loop-owed-test.true q.0 q.1 c.store_row.ensures,
     )

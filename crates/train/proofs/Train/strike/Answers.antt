@@ -42,7 +42,7 @@ tally s = record { sums = s.args.self.sums; held = s.args.self.held }
 -- the answer and the rows are those of the train handed in
 struck-on : (e : After-strike_on-struck) → let r = e.strike_on-struck in
     (strike_told r.result.answer ≡ strike_answer ((train_told e.args.self)) e.args.number)
-    × (lent_train r.result.held r.new.1.0 r.new.1.1.0 r.new.1.1.1.0 r.new.1.1.1.1.0 ≡ strike_train ((train_told e.args.self)) e.args.number)
+    × (lent_train r.result.held r.new.numbers r.new.grades r.new.grosses r.new.nets ≡ strike_train ((train_told e.args.self)) e.args.number)
 struck-on e =
     let t = e.args.self in
     rows_struck (tally e.before.before.before.before.before.before.before.before.before.before.before.before.before.before.before.before) t.numbers t.grades t.grosses t.nets ((not_sound (told (began e.before.before.before.before.before.before)) (sym e.is_unsound.ensures ∙ e.if-is_unsound.false))) e.args.number e.strike_on-struck.ensures

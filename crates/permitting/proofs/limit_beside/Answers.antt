@@ -1,0 +1,56 @@
+-- `permitting::limit_beside` meets its contract: the tests in their order, then the limit of the sum of squares.
+use Prim.Native.Nat.{ℕ, ◌≤◌, ◌<◌}
+use mathlib.Core.Path.{◌≡◌, sym, ap, ap₂, ◌∙◌, subst}
+use mathlib.Core.Bool.{Bool}
+use mathlib.Core.List.{List, [], ◌∷◌, ◌++◌}
+use native.Mathlib.Omega.{arith}
+use Rattle.base.specs.Answer.{Answer, figures, refusal}
+use Rattle.base.specs.Numbers.{one_if}
+use Rattle.table.specs.Table.{Table}
+use Rattle.table.specs.Layout.{tables_of}
+use Rattle.heating.specs.Steps.{expansion}
+use Rattle.heating.proofs.Bounds.{expansion_most}
+use Rattle.grading.specs.Inner.{FieldsInRange}
+use Rattle.car.proofs.Accepted.{fields}
+use Rattle.accuracy.specs.Limit.{IsLimit, within}
+use Rattle.accuracy.specs.Terms.{terms, sum_of_squares}
+use Rattle.accuracy.specs.Permitted.{most_level_term, level_term_of, terms_of}
+use Rattle.accuracy.specs.Inner.{ErrorsInRange}
+use Rattle.accuracy.proofs.Answers.{limited, turned_away_lem}
+use Rattle.accuracy.proofs.Parts.{in_range, errors_away, no_volume, too_large, all_passed}
+use borrow.Author.Rules.{rules}
+use Rattle.permitting.proofs.limit_beside.Goals as goal
+
+abbrev values : Answer → List ℕ
+values (figures vs) = vs
+values (refusal n) = []
+
+pub returns-then-by_errors-ne0 : goal.returns-then-by_errors-ne0
+returns-then-by_errors-ne0 c h x =
+    turned_away_lem (errors_away ((tables_of c.args.d c.args.levels.now c.args.capacities.now)) h c.args.errors x.accepted c.errors_refusal-by_errors.ensures c.if-by_errors-ne0.true)
+
+pub returns-then-six-eq0 : goal.returns-then-six-eq0
+returns-then-six-eq0 c h x =
+    turned_away_lem
+    (no_volume ((tables_of c.args.d c.args.levels.now c.args.capacities.now)) h c.args.errors x.accepted c.errors_refusal-by_errors.ensures c.if-by_errors-ne0.false (rw x.is at (sym c.requires.1.v0 ∙ c.if-six-eq0.true)))
+
+pub returns-then-level-gt-MOST_LEVEL_TERM : goal.returns-then-level-gt-MOST_LEVEL_TERM
+returns-then-level-gt-MOST_LEVEL_TERM c h x =
+    let large : most_level_term < level_term_of ((tables_of c.args.d c.args.levels.now c.args.capacities.now)) c.args.m c.args.errors = omega (arith, c.if-level-gt-MOST_LEVEL_TERM.true, c.level_term_on-level.ensures) in
+    turned_away_lem (too_large ((tables_of c.args.d c.args.levels.now c.args.capacities.now)) h c.args.errors x.accepted c.errors_refusal-by_errors.ensures c.if-by_errors-ne0.false (rw x.is at large))
+
+pub sum_of_squares-requires : goal.sum_of_squares-requires
+sum_of_squares-requires c =
+    ((in_range c.args.errors c.errors_refusal-by_errors.ensures c.if-by_errors-ne0.false), c.if-level-gt-MOST_LEVEL_TERM.false, omega (arith, (c.requires.2 ((fields ((tables_of c.args.d c.args.levels.now c.args.capacities.now)) c.args.m c.requires.0)).density), expansion_most ((fields ((tables_of c.args.d c.args.levels.now c.args.capacities.now)) c.args.m c.requires.0)).density.light), ((fields ((tables_of c.args.d c.args.levels.now c.args.capacities.now)) c.args.m c.requires.0)).hot)
+
+pub returns : goal.returns
+unfolding terms_of
+returns c h x =
+    let m = c.args.m in
+    let e = c.args.errors in
+    let sum : c.sum_of_squares.result ≡ sum_of_squares (terms_of ((tables_of c.args.d c.args.levels.now c.args.capacities.now)) m e) =
+    c.sum_of_squares.ensures.0 ∙ ap₂ (λ (y z : ℕ). sum_of_squares (terms e y z m.temperature)) c.level_term_on-level.ensures ((c.requires.2 ((fields ((tables_of c.args.d c.args.levels.now c.args.capacities.now)) c.args.m c.requires.0)).density)) in
+    let most : level_term_of ((tables_of c.args.d c.args.levels.now c.args.capacities.now)) m e ≤ most_level_term = omega (arith, c.if-level-gt-MOST_LEVEL_TERM.false, c.level_term_on-level.ensures) in
+    limited c.limit_of-limit.result (subst (λ (y : ℕ). IsLimit y c.limit_of-limit.result) (rw x.is at sum) c.limit_of-limit.ensures.0)
+    (all_passed ((tables_of c.args.d c.args.levels.now c.args.capacities.now)) h e x.accepted c.errors_refusal-by_errors.ensures c.if-by_errors-ne0.false (λ z. c.if-six-eq0.false (c.requires.1.v0 ∙ rw x.is z)) (rw x.is at most))
+    (ap₂ (λ (six : List ℕ) (w : Bool). six ++ (c.limit_of-limit.result ∷ one_if w ∷ [])) (ap values x.shows) (c.is_within.ensures ∙ ap (within c.limit_of-limit.result) (rw x.is at c.requires.1.gross)))
