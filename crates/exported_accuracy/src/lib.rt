@@ -1,4 +1,6 @@
 // The permitted error beside the mass for C and Rust: on numbers and slices, as in `exported_cars`.
+#![tactic(auto)]
+
 ghost use Rattle.car.specs.Car.{car_of, dipped};
 ghost use Rattle.accuracy.specs.Permitted.{errors_of};
 ghost use Rattle.reading.specs.Letter.{most_fields};

@@ -1,4 +1,6 @@
 // A sheet answered: the listing of its cars, or the line that says why it is turned away.
+#![tactic(auto)]
+
 ghost use Rattle.std.specs.Prelude.{◌≡◌, ◌+◌, ◌≤◌, ◌<◌, length, get_or, drop};
 ghost use Rattle.base.specs.Buffer.{put};
 ghost use Rattle.base.specs.Limits.{most_car_lines, most_strikes};

@@ -1,4 +1,6 @@
 // Two sheets become one, whose tables rise by type and whose cars rise by number.
+#![tactic(auto)]
+
 ghost use Rattle.std.specs.Prelude.{◌≡◌, [], ◌≤◌, length, take};
 ghost use Rattle.table.specs.Layout.{tables_of};
 ghost use Rattle.grammar.specs.Grammar.{sheet_text, WholeSheet};

@@ -1,5 +1,5 @@
 -- Demand 3 of the figures beside a limit: distance and filling order are those of the six figures, which the car alone shows too.
-use Prim.Native.Nat.{ℕ}
+use Prim.Native.Nat.{ℕ, ◌≤◌}
 use mathlib.Core.Path.{◌≡◌, refl, sym, ap, subst}
 use mathlib.Core.List.{List, ◌++◌}
 use Rattle.base.specs.Answer.{Verdict, accepts, refuses, first, Answer, figures, refusal, answer}
@@ -49,9 +49,9 @@ module _ (ts : List Table) (c : Intake) (tail : List ℕ) where
   in_order_more : InOrder ts (measured_of c) (six ts c) → InOrder ts (measured_of c) (more ts c tail)
   unfolding six_figures
   in_order_more h = record {
-    higher = λ us n b w x l. first_of _ b (h.higher us n b w (comparable x) l);
-    lower = λ us n b w x l. second_of _ b (h.lower us n b w (comparable x) l);
-    level_with = λ us n b w x l. first_of _ b (h.level_with us n b w (comparable x) l);
+    higher = λ us n b w x l. first_of ◌≤◌ b (h.higher us n b w (comparable x) l);
+    lower = λ us n b w x l. second_of ◌≤◌ b (h.lower us n b w (comparable x) l);
+    level_with = λ us n b w x l. first_of ◌≡◌ b (h.level_with us n b w (comparable x) l);
   }
     where
       comparable : {us : List Table} {n : Measured} {b : Answer} → Comparable ts us (measured_of c) n (more ts c tail) b → Comparable ts us (measured_of c) n (six ts c) b

@@ -11,12 +11,8 @@ use Rattle.permitting.proofs.Answered.{whole, away, level_shown, accepted_as, be
 use Rattle.permitting.proofs.permitted_error.Goals as goal
 use Rattle.permitting.proofs.permitted_error.Goals.{After-measured_at-m, After-work_alone, Start}
 
--- where the function began
-abbrev start : After-work_alone → Start
-start a = a.before.before
-
 -- what is measured of the car
-same : (c : After-measured_at-m) → c.measured_at-m.result ≡ measured (start c.before.before.before).args.car
+same : (c : After-measured_at-m) → c.measured_at-m.result ≡ measured c.args.car
 same c =
     c.measured_at-m.ensures (level_shown ((tables_of c.args.d c.args.levels.now c.args.capacities.now)) (dipped c.args.car) c.work_alone.ensures c.in-Accepted.is)
 

@@ -27,10 +27,10 @@ next : (c : In-Next) →
     SoundState (length s) ((state_in c.read_step-step.result.reader c.read_step-step.new.levels c.read_step-step.new.capacities c.read_step-step.new.fields)) × (((state_in c.take_rows-taken.result c.take_rows-taken.new.levels c.take_rows-taken.new.capacities c.loop-outcome.fields)).at < ((state_in c.read_step-step.result.reader c.read_step-step.new.levels c.read_step-step.new.capacities c.read_step-step.new.fields)).at) × (read_from s ((state_in c.read_step-step.result.reader c.read_step-step.new.levels c.read_step-step.new.capacities c.read_step-step.new.fields)) ≡ read_from s ((state_in c.take_rows-taken.result c.take_rows-taken.new.levels c.take_rows-taken.new.capacities c.loop-outcome.fields))) × LinesRead s ((state_in c.read_step-step.result.reader c.read_step-step.new.levels c.read_step-step.new.capacities c.read_step-step.new.fields))
 next c =
     let s = c.args.s.now in
-    let e = ap (λ (x : Progress). step_by x ((state_in c.read_step-step.result.reader c.read_step-step.new.levels.1.0 c.read_step-step.new.levels.1.1.0 c.read_step-step.new.levels.1.1.1.0))) c.in-Next.is in
-    let p = step_by c.read_step-step.result.progress ((state_in c.read_step-step.result.reader c.read_step-step.new.1.1.0 c.read_step-step.new.1.1.1.0 c.read_step-step.new.1.1.1.1.0)) in
-    let w = went_on s ((state_in c.take_rows-taken.result c.take_rows-taken.new.1.1.0 c.take_rows-taken.new.1.1.1.0 c.loop-outcome.fields)) p c.read_step-step.ensures (on c.before.before.before.before.before.before.before).sound ((state_in c.read_step-step.result.reader c.read_step-step.new.1.1.0 c.read_step-step.new.1.1.1.0 c.read_step-step.new.1.1.1.1.0)) e in
-    (w.0, w.1, w.2, read_next s ((state_in c.take_rows-taken.result c.take_rows-taken.new.1.1.0 c.take_rows-taken.new.1.1.1.0 c.loop-outcome.fields)) p c.read_step-step.ensures (on c.before.before.before.before.before.before.before).sound ((on c.before.before.before.before.before.before.before).read c.loop-outcome.invariant.3) ((state_in c.read_step-step.result.reader c.read_step-step.new.1.1.0 c.read_step-step.new.1.1.1.0 c.read_step-step.new.1.1.1.1.0)) e)
+    let e = ap (λ (x : Progress). step_by x ((state_in c.read_step-step.result.reader c.read_step-step.new.levels c.read_step-step.new.capacities c.read_step-step.new.fields))) c.in-Next.is in
+    let p = step_by c.read_step-step.result.progress ((state_in c.read_step-step.result.reader c.read_step-step.new.levels c.read_step-step.new.capacities c.read_step-step.new.fields)) in
+    let w = went_on s ((state_in c.take_rows-taken.result c.take_rows-taken.new.levels c.take_rows-taken.new.capacities c.loop-outcome.fields)) p c.read_step-step.ensures (c.take_rows-taken.ensures c.loop-outcome.fields).sound ((state_in c.read_step-step.result.reader c.read_step-step.new.levels c.read_step-step.new.capacities c.read_step-step.new.fields)) e in
+    (w.0, w.1, w.2, read_next s ((state_in c.take_rows-taken.result c.take_rows-taken.new.levels c.take_rows-taken.new.capacities c.loop-outcome.fields)) p c.read_step-step.ensures (c.take_rows-taken.ensures c.loop-outcome.fields).sound ((c.take_rows-taken.ensures c.loop-outcome.fields).read c.loop-outcome.invariant.3) ((state_in c.read_step-step.result.reader c.read_step-step.new.levels c.read_step-step.new.capacities c.read_step-step.new.fields)) e)
 
 pub returns-then-s-gt-LONGEST_SHEET : goal.returns-then-s-gt-LONGEST_SHEET
 returns-then-s-gt-LONGEST_SHEET c =
@@ -83,9 +83,9 @@ returns-in-Over c =
     let p = step_by c.read_step-step.result.progress st in
     let told = outcome_told o st.tables st.history in
     let e = ap (λ (x : Progress). step_by x st) c.in-Over.is in
-    finish s (record { outcome = o; directory = h.directory; cars = h.cars; struck = h.struck }) c.read_step-step.new.levels.1.0 c.read_step-step.new.levels.1.1.0 c.read_step-step.new.levels.1.1.1.0
-    (is_over s ((state_in c.take_rows-taken.result c.take_rows-taken.new.1.1.0 c.take_rows-taken.new.1.1.1.0 c.loop-outcome.fields)) p c.read_step-step.ensures (on (goal.at.returns-in-Over c).After-take_rows-taken).sound st told e ∙ (on (goal.at.returns-in-Over c).After-take_rows-taken).same ∙ c.loop-outcome.invariant.2)
+    finish s (record { outcome = o; directory = h.directory; cars = h.cars; struck = h.struck }) c.read_step-step.new.levels c.read_step-step.new.capacities c.read_step-step.new.fields
+    (is_over s ((state_in c.take_rows-taken.result c.take_rows-taken.new.levels c.take_rows-taken.new.capacities c.loop-outcome.fields)) p c.read_step-step.ensures (on (goal.at.returns-in-Over c).After-take_rows-taken).sound st told e ∙ (on (goal.at.returns-in-Over c).After-take_rows-taken).same ∙ c.loop-outcome.invariant.2)
     (λ line number z.
-    let x = read_over s ((state_in c.take_rows-taken.result c.take_rows-taken.new.1.1.0 c.take_rows-taken.new.1.1.1.0 c.loop-outcome.fields)) p c.read_step-step.ensures (on (goal.at.returns-in-Over c).After-take_rows-taken).sound ((on (goal.at.returns-in-Over c).After-take_rows-taken).read c.loop-outcome.invariant.3) st told e in
+    let x = read_over s ((state_in c.take_rows-taken.result c.take_rows-taken.new.levels c.take_rows-taken.new.capacities c.loop-outcome.fields)) p c.read_step-step.ensures (on (goal.at.returns-in-Over c).After-take_rows-taken).sound ((on (goal.at.returns-in-Over c).After-take_rows-taken).read c.loop-outcome.invariant.3) st told e in
     let y : Explained s st.tables st.history (refused_at line number) = rw z at x in
     y c.loop-outcome.invariant.1)

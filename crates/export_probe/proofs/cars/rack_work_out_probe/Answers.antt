@@ -16,10 +16,7 @@ use Rattle.marshalling.proofs.Lengths.{CarRight, car_right, tables_copied}
 use Rattle.export_probe.specs.declared.cars.Prepared.{Prepared}
 use Rattle.export_probe.specs.Prepared.{PreparedAs}
 use Rattle.export_probe.proofs.cars.rack_work_out_probe.Goals as goal
-use Rattle.export_probe.proofs.cars.rack_work_out_probe.Goals.{In-Refused-2, Start, Then-car_fits}
-
-abbrev start : Then-car_fits → Start
-start c = c.before.before.before.before.before.before.before.before
+use Rattle.export_probe.proofs.cars.rack_work_out_probe.Goals.{In-Refused, Start, Then-car_fits}
 
 right : (c : Then-car_fits)
     → CarRight
@@ -32,22 +29,19 @@ right : (c : Then-car_fits)
     c.args.figures.now
 right c = car_right _ _ _ _ _ _ _ (sym c.car_fits.ensures ∙ c.if-car_fits.true)
 
-abbrev the_car : Start → ProbeCar
-the_car s = probe_car_of s.args.car.now (set_of s.args.level s.args.temperature s.args.density)
-
 fit : (c : Then-car_fits) (a : Answer) → let s = c.args in
     a ≡ sized (car_sized probe_fields s.types.now s.rows.now s.levels.now s.capacities.now s.car.now s.figures.now) a
 fit c a = right_sized a (sym c.car_fits.ensures ∙ c.if-car_fits.true)
 
-refused : (n : In-Refused-2) → first (set_tests (the_car (start n.before.before)).set) ≡ refuses n.in-Refused.number
-refused n = subst (λ (r : Prepared). PreparedAs r (the_car (start n.before.before))) n.in-Refused.is n.prepare.ensures
+refused : (n : In-Refused) → first (set_tests (probe_car_of n.args.car.now (set_of n.args.level n.args.temperature n.args.density)).set) ≡ refuses n.in-Refused.number
+refused n = subst (λ (r : Prepared). PreparedAs r (probe_car_of n.args.car.now (set_of n.args.level n.args.temperature n.args.density))) n.in-Refused.is n.prepare.ensures
 
 pub prepare-requires : goal.prepare-requires
 prepare-requires c = (right c).0
 
 pub returns-in-Refused : goal.returns-in-Refused
 returns-in-Refused c =
-    handed figures_left _ (alone_before ((tables_lent c.args.count c.args.types.now c.args.rows.now c.args.levels.now c.args.capacities.now)) (probed ((probe_car_of c.args.car.now (set_of c.args.level c.args.temperature c.args.density)))) (refused (goal.at.returns-in-Refused c).In-Refused-2) ∙ fit (goal.at.returns-in-Refused c).Then-car_fits _)
+    handed figures_left _ (alone_before ((tables_lent c.args.count c.args.types.now c.args.rows.now c.args.levels.now c.args.capacities.now)) (probed ((probe_car_of c.args.car.now (set_of c.args.level c.args.temperature c.args.density)))) (refused (goal.at.returns-in-Refused c).In-Refused) ∙ fit (goal.at.returns-in-Refused c).Then-car_fits _)
 
 pub directory_of-d-requires : goal.directory_of-d-requires
 directory_of-d-requires c = let r = right (goal.at.directory_of-d-requires c).Then-car_fits in (r.2.0, r.2.1)

@@ -14,31 +14,21 @@ use Rattle.trainslice.proofs.Slice.{train_handed, train_kept}
 use Rattle.exported_cars.proofs.cars.rack_train_strike.Goals as goal
 use Rattle.exported_cars.proofs.cars.rack_train_strike.Goals.{After-slice_known-2-1, After-strike-step, Else-train-ne-TRAIN_PLACES, Start}
 
-abbrev struck : After-slice_known-2-1 → After-strike-step
-struck n = n.before.before.before.before.before
-
--- behind the test of the length
-abbrev right : After-strike-step → Else-train-ne-TRAIN_PLACES
-right e = e.before.before.before
-
-abbrev start : Else-train-ne-TRAIN_PLACES → Start
-start x = x.before.before
-
 told : (n : After-slice_known-2-1) →
-    let a = (start (right (struck n))).args in
+    let a = n.args in
     strike_told n.strike-step.result.answer ≡ sized (length_is train_places a.train.now) (strike_answer (train_of a.train.now) a.number)
 told n =
-    let a = (start (right n.before.before.before.before.before)).args in
-    n.strike-step.ensures.0 ∙ ap (λ (t : Train). strike_answer t a.number) n.train_of-running.ensures ∙ right_sized _ (eq-eqb _ _ n.if-train-ne-TRAIN_PLACES.left)
+    let a = n.args in
+    n.strike-step.ensures.0 ∙ ap (λ (t : Train). strike_answer t a.number) n.train_of-running.ensures ∙ right_sized _ (eq-eqb _ _ n.if-train-ne-TRAIN_PLACES.false)
 
 handed : (n : After-slice_known-2-1) →
-    let a = (start (right (struck n))).args in
+    let a = n.args in
     TrainHanded (length_is train_places a.train.now) (strike_train (train_of a.train.now) a.number) a.train.now n.write_train.new.to
 handed n =
     let a = n.args in
     let next = n.strike-step.ensures.1 ∙ ap (λ (t : Train). strike_train t a.number) n.train_of-running.ensures in
     let low : (i : ℕ) → get_or a.train.now i 0 < half = λ i. omega (arith, n.slice_known-1.given i) in
-    train_handed n.if-train-ne-TRAIN_PLACES.left low (eq-eqb _ _ n.if-train-ne-TRAIN_PLACES.left) (n.write_train.ensures.0 ∙ ap train_numbers next) (n.write_train.ensures.1 ∙ next)
+    train_handed n.if-train-ne-TRAIN_PLACES.false low (eq-eqb _ _ n.if-train-ne-TRAIN_PLACES.false) (n.write_train.ensures.0 ∙ ap train_numbers next) (n.write_train.ensures.1 ∙ next)
 
 pub returns-in-Struck : goal.returns-in-Struck
 returns-in-Struck c =

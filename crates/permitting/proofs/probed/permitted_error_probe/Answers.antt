@@ -15,21 +15,14 @@ use Rattle.permitting.proofs.Answered.{whole, away, accepted_as, behind}
 use Rattle.permitting.proofs.probed.permitted_error_probe.Goals as goal
 use Rattle.permitting.proofs.probed.permitted_error_probe.Goals.{After-probed_of-p, After-work_probed_alone, Start}
 
-abbrev start : After-probed_of-p → Start
-start p = p.before.before.before
-
 -- the car's set comes to tenths, and these are what is measured of it
 stands : (p : After-probed_of-p) → Stands p.probed_of-p.result p.args.car
 stands p =
     p.probed_of-p.ensures (set_shown p.args.car.set p.set_tenths.ensures p.in-Tenths.is)
 
-abbrev probe : After-work_probed_alone → After-probed_of-p
-probe w = w.before.before.before
-
 pub limit_beside-requires : goal.limit_beside-requires
 limit_beside-requires c =
-    let s = start (probe (goal.at.limit_beside-requires c).After-work_probed_alone) in
-    let p = behind ((tables_of s.args.d s.args.levels.now s.args.capacities.now)) (probed s.args.car) ((c.work_probed_alone.ensures (start (probe (goal.at.limit_beside-requires c).After-work_probed_alone)).args.car (stands (probe (goal.at.limit_beside-requires c).After-work_probed_alone)))) c.in-Accepted.is (stands (probe (goal.at.limit_beside-requires c).After-work_probed_alone)).decreases in
+    let p = behind ((tables_of c.args.d c.args.levels.now c.args.capacities.now)) (probed c.args.car) ((c.work_probed_alone.ensures c.args.car (stands (goal.at.limit_beside-requires c).After-probed_of-p))) c.in-Accepted.is (stands (goal.at.limit_beside-requires c).After-probed_of-p).measured in
     (p.0, p.1, c.expansion-expansion.ensures)
 
 pub returns-in-Refused : goal.returns-in-Refused
@@ -40,12 +33,10 @@ returns-in-Refused c =
 
 pub returns-in-Accepted : goal.returns-in-Accepted
 returns-in-Accepted c =
-    let s = start (probe (goal.at.returns-in-Accepted c).After-work_probed_alone) in
-    let h = probed s.args.car in
-    whole probed_permitted_right ((tables_of s.args.d s.args.levels.now s.args.capacities.now)) h s.args.errors (permitted_told c.limit_beside.result)
-    (c.limit_beside.ensures h (accepted_as ((tables_of s.args.d s.args.levels.now s.args.capacities.now)) h ((c.work_probed_alone.ensures (start (probe (goal.at.returns-in-Accepted c).After-work_probed_alone)).args.car (stands (probe (goal.at.returns-in-Accepted c).After-work_probed_alone)))) c.in-Accepted.is (stands (probe (goal.at.returns-in-Accepted c).After-work_probed_alone)).decreases))
+    let h = probed c.args.car in
+    whole probed_permitted_right ((tables_of c.args.d c.args.levels.now c.args.capacities.now)) h c.args.errors (permitted_told c.limit_beside.result)
+    (c.limit_beside.ensures h (accepted_as ((tables_of c.args.d c.args.levels.now c.args.capacities.now)) h ((c.work_probed_alone.ensures c.args.car (stands (goal.at.returns-in-Accepted c).After-probed_of-p))) c.in-Accepted.is (stands (goal.at.returns-in-Accepted c).After-probed_of-p).measured))
 
 pub returns-in-Refused-work_probed_alone : goal.returns-in-Refused-work_probed_alone
 returns-in-Refused-work_probed_alone c =
-    let s = start (probe (goal.at.returns-in-Refused-work_probed_alone c).After-work_probed_alone) in
-    away probed_permitted_right ((tables_of s.args.d s.args.levels.now s.args.capacities.now)) (probed s.args.car) s.args.errors ((c.work_probed_alone.ensures (start (probe (goal.at.returns-in-Refused-work_probed_alone c).After-work_probed_alone)).args.car (stands (probe (goal.at.returns-in-Refused-work_probed_alone c).After-work_probed_alone)))) c.in-Refused-work_probed_alone.is
+    away probed_permitted_right ((tables_of c.args.d c.args.levels.now c.args.capacities.now)) (probed c.args.car) c.args.errors ((c.work_probed_alone.ensures c.args.car (stands (goal.at.returns-in-Refused-work_probed_alone c).After-probed_of-p))) c.in-Refused-work_probed_alone.is
