@@ -1,4 +1,6 @@
 // Answering a sheet, for callers in C or Rust.
+#![tactic(auto)]
+
 ghost use Rattle.std.specs.Prelude.{◌≡◌, length};
 ghost use Rattle.answers.specs.Listing.{reply_of, after_answer};
 

@@ -1,4 +1,6 @@
 // Merging two sheets, for callers in C or Rust.
+#![tactic(auto)]
+
 ghost use Rattle.merge_spec.specs.Merge.{Merges};
 
 // The merged sheet's length, with 0 in `number` and in `line`; or 0, with the refusal's number and its line.

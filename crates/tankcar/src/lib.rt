@@ -1,4 +1,5 @@
 // The library: exactly the operations open to callers, and the types they take and answer. None of them asks anything of its caller.
+#![tactic(auto)]
 
 // Lines of a sheet.
 pub use lettering::{read_line, write_line};

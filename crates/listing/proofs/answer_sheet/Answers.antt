@@ -22,18 +22,17 @@ pub overflow_add-head : goal.overflow_add-head
 overflow_add-head c = search (rules, few c)
 
 pub write_listing-length-requires : goal.write_listing-length-requires
-write_listing-length-requires c =
-    (
-      record {
-        good = c.read_sheet-head.ensures.2.good c.in-Whole.is;
-        few = few c;
-        few_cars = c.read_sheet-head.ensures.2.few_cars c.in-Whole.is;
-        few_strikes = c.read_sheet-head.ensures.2.few_strikes c.in-Whole.is;
-        each = (whole_proper c.args.text.now c.read_sheet-head.result c.read_sheet-head.new.levels c.read_sheet-head.new.capacities c.read_sheet-head.new.fields c.read_sheet-head.ensures.0 c.in-Whole.is).each;
-        space = omega (arith, c.if-out-lt-LEAST_BUFFER.false);
-      },
-      c.expansions-expansions.ensures,
-    )
+write_listing-length-requires c = (
+  record {
+    good = c.read_sheet-head.ensures.2.good c.in-Whole.is;
+    few = few c;
+    few_cars = c.read_sheet-head.ensures.2.few_cars c.in-Whole.is;
+    few_strikes = c.read_sheet-head.ensures.2.few_strikes c.in-Whole.is;
+    each = (whole_proper c.args.text.now c.read_sheet-head.result c.read_sheet-head.new.levels c.read_sheet-head.new.capacities c.read_sheet-head.new.fields c.read_sheet-head.ensures.0 c.in-Whole.is).each;
+    space = omega (arith, c.if-out-lt-LEAST_BUFFER.false);
+  },
+  c.expansions-expansions.ensures,
+)
 
 pub returns-in-RefusedAt : goal.returns-in-RefusedAt
 returns-in-RefusedAt c =

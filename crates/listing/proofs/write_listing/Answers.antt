@@ -61,4 +61,4 @@ made_by-sums-requires c =
 
 pub write_totals-requires : goal.write_totals-requires
 write_totals-requires c =
-    rw (made (goal.at.write_totals-requires c).After-made_by-sums) (totals_ready ((tables_of c.args.d c.args.levels.now c.args.capacities.now)) c.requires.0.good.accepted c.args.fields.now c.args.lines c.args.out.now (fits (goal.at.write_totals-requires c).Start) c.loop-i.out ((lent_train c.loop-i.held c.loop-i.numbers c.loop-i.grades c.loop-i.grosses c.loop-i.nets)) c.loop-i.at c.loop-i.i c.loop-i.inv c.loop-i-test.left)
+    rw (made (goal.at.write_totals-requires c).After-made_by-sums) (totals_ready ((tables_of c.args.d c.args.levels.now c.args.capacities.now)) c.requires.0.good.accepted c.args.fields.now c.args.lines c.args.out.now (fits (goal.at.write_totals-requires c).Start) c.loop-i.out ((lent_train c.loop-i.held c.loop-i.numbers c.loop-i.grades c.loop-i.grosses c.loop-i.nets)) c.loop-i.at c.loop-i.i c.loop-i.invariant c.loop-i-test.false)

@@ -15,16 +15,15 @@ overflow_add-contents c =
     search (rules, few)
 
 pub merge_read-requires : goal.merge_read-requires
-merge_read-requires c =
-    (
-      c.requires.0,
-      c.requires.1,
-      whole_few c.args.second.now c.read_sheet-contents.result c.read_sheet-contents.new.levels c.read_sheet-contents.new.capacities c.read_sheet-contents.new.fields c.read_sheet-contents.ensures.0 c.in-Whole.is,
-      c.requires.2,
-      whole_good c.args.second.now c.read_sheet-contents.result c.read_sheet-contents.new.levels c.read_sheet-contents.new.capacities c.read_sheet-contents.new.fields c.read_sheet-contents.ensures.0 c.in-Whole.is,
-      c.requires.3,
-      whole_text c.args.second.now c.read_sheet-contents.result c.read_sheet-contents.new.levels c.read_sheet-contents.new.capacities c.read_sheet-contents.new.fields c.read_sheet-contents.ensures.0 c.in-Whole.is,
-    )
+merge_read-requires c = (
+  c.requires.0,
+  c.requires.1,
+  whole_few c.args.second.now c.read_sheet-contents.result c.read_sheet-contents.new.levels c.read_sheet-contents.new.capacities c.read_sheet-contents.new.fields c.read_sheet-contents.ensures.0 c.in-Whole.is,
+  c.requires.2,
+  whole_good c.args.second.now c.read_sheet-contents.result c.read_sheet-contents.new.levels c.read_sheet-contents.new.capacities c.read_sheet-contents.new.fields c.read_sheet-contents.ensures.0 c.in-Whole.is,
+  c.requires.3,
+  whole_text c.args.second.now c.read_sheet-contents.result c.read_sheet-contents.new.levels c.read_sheet-contents.new.capacities c.read_sheet-contents.new.fields c.read_sheet-contents.ensures.0 c.in-Whole.is,
+)
 
 pub returns-in-Whole : goal.returns-in-Whole
 returns-in-Whole c =

@@ -33,13 +33,12 @@ overflow_add-contents c =
     search (rules, few)
 
 pub merge_second-requires : goal.merge_second-requires
-merge_second-requires c =
-    (
-      c.if-out-lt-LEAST_MERGE_BUFFER.false,
-      whole_few c.args.first.now c.read_sheet-contents.result c.read_sheet-contents.new.levels c.read_sheet-contents.new.capacities c.read_sheet-contents.new.fields c.read_sheet-contents.ensures.0 c.in-Whole.is,
-      whole_good c.args.first.now c.read_sheet-contents.result c.read_sheet-contents.new.levels c.read_sheet-contents.new.capacities c.read_sheet-contents.new.fields c.read_sheet-contents.ensures.0 c.in-Whole.is,
-      whole_text c.args.first.now c.read_sheet-contents.result c.read_sheet-contents.new.levels c.read_sheet-contents.new.capacities c.read_sheet-contents.new.fields c.read_sheet-contents.ensures.0 c.in-Whole.is,
-    )
+merge_second-requires c = (
+  c.if-out-lt-LEAST_MERGE_BUFFER.false,
+  whole_few c.args.first.now c.read_sheet-contents.result c.read_sheet-contents.new.levels c.read_sheet-contents.new.capacities c.read_sheet-contents.new.fields c.read_sheet-contents.ensures.0 c.in-Whole.is,
+  whole_good c.args.first.now c.read_sheet-contents.result c.read_sheet-contents.new.levels c.read_sheet-contents.new.capacities c.read_sheet-contents.new.fields c.read_sheet-contents.ensures.0 c.in-Whole.is,
+  whole_text c.args.first.now c.read_sheet-contents.result c.read_sheet-contents.new.levels c.read_sheet-contents.new.capacities c.read_sheet-contents.new.fields c.read_sheet-contents.ensures.0 c.in-Whole.is,
+)
 
 pub returns-in-RefusedAt : goal.returns-in-RefusedAt
 returns-in-RefusedAt c =

@@ -83,7 +83,7 @@ returns-in-Probed c =
     let k = c.enter_probed-step.ensures ((probe_car_of c.args.car.now (set_of c.args.level c.args.temperature c.args.density))) (stands (goal.at.returns-in-Probed c).In-Probed) in
     let next = k.1 ∙ ap₂ (λ (us : List Table) (u : Train). enter_train us u (probed ((probe_car_of c.args.car.now (set_of c.args.level c.args.temperature c.args.density))))) ts c.train_of-running.ensures in (
       handed_as c.hand_over.ensures (k.0 ∙ ap₂ (λ (us : List Table) (u : Train). enter_answer us u (probed ((probe_car_of c.args.car.now (set_of c.args.level c.args.temperature c.args.density))))) ts c.train_of-running.ensures ∙ right_sized _ (fit (goal.at.returns-in-Probed c).Then-car_fits)),
-      train_handed c.if-train-ne-TRAIN_PLACES.left (low (goal.at.returns-in-Probed c).Then-car_fits) (fit (goal.at.returns-in-Probed c).Then-car_fits) (c.write_train.ensures.0 ∙ ap train_numbers next) (c.write_train.ensures.1 ∙ next),
+      train_handed c.if-train-ne-TRAIN_PLACES.false (low (goal.at.returns-in-Probed c).Then-car_fits) (fit (goal.at.returns-in-Probed c).Then-car_fits) (c.write_train.ensures.0 ∙ ap train_numbers next) (c.write_train.ensures.1 ∙ next),
     )
 
 pub returns : goal.returns

@@ -31,7 +31,7 @@ both s = record {
   second_text = s.requires.6;
 }
 
-abbrev tested : (q : After-conflict-number) → Tested (both q.before.before.before.before.before.before)
+abbrev tested : (q : After-conflict-number) → Tested (both q.before.before.before.before.before.before.before)
 tested q = record {
   a = q.held_cars-a.result;
   b = q.held_cars-b.result;
@@ -41,7 +41,17 @@ tested q = record {
   told = q.conflict-number.ensures;
 }
 
-abbrev ordered : (v : After-order_cars-cars) → Ordered (both v.before.before.before.before.before.before.before.before.before.before.before) (tested v.before.before.before.before.before)
+abbrev tested_at : (v : After-order_cars-cars) → Tested (both v.before.before.before.before.before.before.before.before.before.before.before.before)
+tested_at v = record {
+  a = v.held_cars-a.result;
+  b = v.held_cars-b.result;
+  i = v.held_cars-a.ensures;
+  j = v.held_cars-b.ensures;
+  number = v.conflict-number.result;
+  told = v.conflict-number.ensures;
+}
+
+abbrev ordered : (v : After-order_cars-cars) → Ordered (both v.before.before.before.before.before.before.before.before.before.before.before.before) (tested_at v)
 ordered v =
     record {
       z = v.if-number-ne0.false;
