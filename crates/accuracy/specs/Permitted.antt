@@ -7,7 +7,7 @@ use Rattle.gauging.specs.Capacity.{Gap, rows_around}
 use Rattle.heating.specs.Steps.{expansion}
 use Rattle.car.specs.declared.Measured.{Measured}
 use Rattle.car.specs.Measured.{rows, v0, gross, mass}
-use Rattle.car.specs.Car.{measured, Intake, measured_of, figures_of, alone_tests}
+use Rattle.car.specs.Car.{Intake, measured_of, figures_of, alone_tests}
 use Rattle.accuracy.specs.declared.Errors.{Errors}
 use Rattle.accuracy.specs.declared.PermittedError.{PermittedError}
 use Rattle.accuracy.specs.declared.PermittedError.TheVariants.{Limit, Refused}

@@ -9,7 +9,6 @@ use lib.ListN.{length, get_or}
 use lib.Seq.{length-take-le, get_or-take}
 use Rattle.base.specs.Limits.{in_tenths}
 use Rattle.base.specs.Lists.{Each}
-use Rattle.base.specs.Numbers.{difference}
 use Rattle.base.specs.Total.{total}
 use Rattle.comparison.specs.declared.Difference.{Difference}
 use Rattle.comparison.specs.declared.Comparison.{Comparison}

@@ -7,13 +7,13 @@ use native.Mathlib.Nat.{add-zero, zero-add}
 use native.Mathlib.Numerals.{add-one}
 use native.Mathlib.Omega.{arith}
 use lib.Dec.{eqb}
-use lib.ListN.{length, get_or, take, drop, set, length-set}
+use lib.ListN.{length, get_or, take, drop, length-set}
 use lib.Seq.{drop-cons, get_or-set_same, get_or-set_other, append_snoc}
 use Rattle.base.specs.Limits.{most_cars}
 use Rattle.summing.specs.declared.Sums.{Sums}
 use Rattle.summing.specs.Sums.{Shown, sums_of}
 use Rattle.summing.proofs.Adding.{sums_snoc, sums_less_lem}
-use Rattle.consist.specs.Train.{Train, held_by, Held, refused, weighed, held_number, held_as, car_at, cars_from, cars_of, shown_in, with_held, remove_at, closed, sums_less, without_at}
+use Rattle.consist.specs.Train.{Train, held_by, Held, refused, weighed, held_number, held_as, car_at, cars_from, cars_of, shown_in, with_held, remove_at, sums_less, without_at}
 use Rattle.consist.specs.Inner.{Sixty, sums_more}
 use Rattle.consist.proofs.Places.{closed-length, closed_front, closed_behind}
 

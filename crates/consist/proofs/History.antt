@@ -18,7 +18,7 @@ use Rattle.car.specs.Measured.{mass, six_figures}
 use Rattle.car.specs.Car.{car_tests, figures_of, Intake, intake_number}
 use Rattle.consist.specs.Train.{Train}
 use Rattle.consist.specs.Book.{Item, car, strike, number_in, book_admission, book_strike}
-use Rattle.consist.specs.Demand3.{verdict_in, answer_to, train_with, answers_from, struck_in, Standing, standing, shown_of, shown, first_strike, Found}
+use Rattle.consist.specs.Demand3.{verdict_in, answer_to, train_with, answers_from, struck_in, Standing, standing, shown_of, first_strike, Found}
 use Rattle.consist.proofs.Places.{selected_both, map-map, member_more, member_others}
 use Rattle.consist.proofs.Loads.{Accepted, shown_for}
 use Rattle.consist.proofs.Kept.{Kept, turned, taken, entry_for, number_for, book_of, taken_in_lem, taken_append, Matches, kept_by, kept_step, matched, said, answer_is}

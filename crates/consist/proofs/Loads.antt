@@ -6,7 +6,6 @@ use native.Mathlib.Omega.{arith}
 use lib.Dec.{eqb}
 use lib.ListN.{length}
 use Rattle.base.specs.Limits.{grade_count}
-use Rattle.base.specs.Answer.{refusal}
 use Rattle.base.specs.Fraction.{Within}
 use Rattle.base.specs.Lists.{Each}
 use Rattle.base.specs.Total.{total, totalˣ, selected}
@@ -26,8 +25,8 @@ use Rattle.car.proofs.Masses.{mass_most, mass_near}
 use Rattle.summing.specs.Sums.{Shown, shown_mass, of_grade, totals_of, total_in}
 use Rattle.summing.proofs.Adding.{Known}
 use Rattle.consist.specs.Train.{car_shown}
-use Rattle.consist.specs.Book.{car, Load, exact_mass, loads_of_grade, load_of}
-use Rattle.consist.specs.Demand3.{shown, Beside}
+use Rattle.consist.specs.Book.{Load, exact_mass, loads_of_grade, load_of}
+use Rattle.consist.specs.Demand3.{Beside}
 
 pub record Accepted : Type 0 where
   pub tables : List Table

@@ -31,7 +31,7 @@ use Rattle.grammar.specs.Grammar.{t_line, r_line, c_line, k_line, e_line, TrainL
 use Rattle.grammar.specs.Faults.{line_faults}
 use Rattle.grammar.specs.Sheet.{longest, SheetRead, refused_at, whole, State, over, past, due_by, due_of, car_line, end_line, by_letter, step_of, read_from, start, sheet_of}
 use Rattle.grammar.specs.ByGrammar.{Fault, Refusal, too_long, fault, bytes_after}
-use Rattle.grammar.specs.Inner.{Sound, Counted}
+use Rattle.grammar.specs.Inner.{Sound}
 use Rattle.grammar.proofs.Rules.{with_row_last, last_rows_last, cars_more, cars_kept, strikes_kept, strikes_more, table_taken, row_taken, car_taken, strike_taken}
 use Rattle.grammar.proofs.Passed.{verdict_passed}
 use Rattle.grammar.proofs.Steps.{both_first, both_last, step_read}

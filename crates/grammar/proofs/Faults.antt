@@ -30,7 +30,7 @@ use Rattle.reading.proofs.Letters.{found}
 use Rattle.reading.proofs.Fields.{value_at}
 use Rattle.reading.proofs.Lines.{IsLine, is_line}
 use Rattle.table.specs.Table.{row_of, Table, table_line_bad, row_bad}
-use Rattle.grammar.specs.Grammar.{TrainLine, cars_in, strikes_in, kinds, last_rows, may_come}
+use Rattle.grammar.specs.Grammar.{TrainLine, kinds, last_rows, may_come}
 use Rattle.grammar.specs.Faults.{number_in, letter_in, number_faults, letter_faults, line_faults}
 use Rattle.grammar.specs.Sheet.{State, refused_here, due_by, due_of, by_letter, step_of}
 use Rattle.grammar.specs.Inner.{Counted}

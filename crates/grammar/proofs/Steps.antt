@@ -26,7 +26,7 @@ use Rattle.reading.proofs.Lines.{IsLine, is_line}
 use Rattle.line.specs.Writing.{small_to}
 use Rattle.line.proofs.RoundTrip.{read_small}
 use Rattle.table.specs.Table.{row_of, Table, table_line_bad, row_bad}
-use Rattle.grammar.specs.Grammar.{TrainLine, enters, strikes, Fitting, CarNumbers, WholeSheet, kinds, last_rows}
+use Rattle.grammar.specs.Grammar.{enters, strikes, Fitting, CarNumbers, WholeSheet, kinds, last_rows}
 use Rattle.grammar.specs.Sheet.{longest, State, Step, next, over, refused_here, due_by, due_of, table_line, row_line, car_line, strike_line, end_line, by_letter, by_reading, step_of}
 use Rattle.grammar.specs.Proper.{Proper}
 use Rattle.grammar.specs.Inner.{SoundState, Recorded}

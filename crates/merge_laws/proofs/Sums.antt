@@ -12,7 +12,6 @@ use Rattle.base.proofs.Total.{total_same, total_selected}
 use Rattle.table.specs.Table.{Table}
 use Rattle.car.specs.Measured.{gross, net}
 use Rattle.car.specs.Car.{car_of, dipped, measured_of}
-use Rattle.summing.specs.declared.Totals.{Totals}
 use Rattle.summing.specs.Sums.{Shown, shown_mass, of_grade, totals_of, sums_of, totals_from, grade_totals, together}
 use Rattle.consist.specs.Train.{empty_train}
 use Rattle.consist.specs.Demand3.{mass_in, answers_from, struck_in, standing, shown_of, shown}

@@ -12,7 +12,7 @@ use Rattle.base.specs.Answer.{accepts, first}
 use Rattle.base.specs.Limits.{most_tables, most_rows}
 use Rattle.base.specs.Lists.{Each}
 use Rattle.base.specs.Numbers.{outside, member}
-use Rattle.base.proofs.Choice.{neither, both_hold, same}
+use Rattle.base.proofs.Choice.{neither, both_hold}
 use Rattle.table.specs.Table.{Row, Table, table_line_bad, rows_tests, tables_tests_after, tables_verdict, unknown, rows_of}
 use Rattle.table.proofs.Table.{passing, next_table, table_passed}
 use Rattle.merge_spec.specs.Order.{In, Joined}

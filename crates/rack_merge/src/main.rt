@@ -1,56 +1,64 @@
 // The program that merges: reads the sheets in the two files that its arguments name, and writes the sheet made of them to standard
 // output; or, where they are refused, nothing there, and the refusal's number and line to standard error.
-ghost use Rattle.io.specs.Counts.{IsPrefixLen};
+#![tactic(auto)]
 
-use libc::{STDERR_FILENO, STDOUT_FILENO};
+ghost use Rattle.std.specs.Prelude.{◌≤◌, length, IfOk};
+
+use std::io::{self, Write};
+use std::rt::{Env, Files};
+use std::{env, fs};
+
+use input::read_full;
 use merge::LEAST_MERGE_BUFFER;
 use sheet::LONGEST_SHEET;
 
-// Reads the file that argument i names, one byte more than the longest sheet at most, so that a longer one is seen to be too long. Of a
-// file that cannot be read it says why, and nothing is read.
-fn read_argument(i: usize, text: &mut [u8]) -> usize
-    ensures { IsPrefixLen result text.new }
+// Reads a file, one byte more than the longest sheet at most, so that a longer one is seen to be too long. Of a file that cannot be
+// opened it says why, and nothing is read.
+fn read_file(rt: &(impl Files + Eprint), path: &str, text: &mut [u8]) -> io::Result<usize>
+    ensures { IfOk result (λ n. n ≤ length text.new) }
 {
-    let mut path = io::buffer();
-    let length = os::arg(i, &mut path);
-    let fd = os::open_read(&path[..length]);
-    if fd < 0 {
-        os::fail(&path[..length]);
-        return 0;
+    match fs::open(rt, path) {
+        Ok(mut file) => read_full(&mut file, text),
+        Err(why) => {
+            eprintln!(rt; "{path}: {why}")?;
+            Ok(0)
+        }
     }
-    let n = io::read_full(fd, text);
-    libc::close(fd);
-    n
 }
 
-// Says on standard error what was refused, or that the sheet was not written whole, as on a full disk: the language has no exit status.
-fn report(number: u32, line: u32, is_written: bool) {
+// Says on standard error what was refused, or that the sheet was not written whole, as on a full disk.
+fn report(rt: &impl Eprint, number: u32, line: u32, is_written: bool) -> io::Result<()> {
     if number != 0 {
-        io::print_decimal(STDERR_FILENO, number as u64);
-        io::write_all(STDERR_FILENO, b" ");
-        io::print_decimal(STDERR_FILENO, line as u64);
-        io::write_all(STDERR_FILENO, b"\n");
-        return;
+        return eprintln!(rt; "{number} {line}");
     }
     if !is_written {
-        io::write_all(
-            STDERR_FILENO,
-            b"rack_merge: the merged sheet could not be written whole; do not use it\n",
-        );
+        eprintln!(rt; "rack_merge: the merged sheet could not be written whole; do not use it")?;
+    }
+    Ok(())
+}
+
+// Reads the file that argument i names.
+fn read_argument(
+    rt: &(impl Files + Env + Alloc + Eprint),
+    i: usize,
+    text: &mut [u8],
+) -> io::Result<usize>
+    ensures { IfOk result (λ n. n ≤ length text.new) }
+{
+    match env::args(rt)?.nth(i) {
+        Some(path) => read_file(rt, path.as_str(), text),
+        None => read_file(rt, "", text),
     }
 }
 
-fn main() {
+fn main(rt: HostRuntime) -> io::Result<()> {
     let mut first = [0u8; LONGEST_SHEET + 1];
     let mut second = [0u8; LONGEST_SHEET + 1];
-    let n = read_argument(1, &mut first);
-    let m = read_argument(2, &mut second);
+    let n = read_argument(&rt, 1, &mut first)?;
+    let m = read_argument(&rt, 2, &mut second)?;
     let mut out = [0u8; LEAST_MERGE_BUFFER];
     let reply = merge::merge_sheets(&first[..n], &second[..m], &mut out);
     let length = reply.length;
-    report(
-        reply.number,
-        reply.line,
-        io::write_all(STDOUT_FILENO, &out[..length]),
-    );
+    let is_written = rt.stdout().write_all(&out[..length]).is_ok();
+    report(&rt, reply.number, reply.line, is_written)
 }

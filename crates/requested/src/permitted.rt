@@ -1,6 +1,7 @@
 // The permitted error beside the mass: the worked figures of request (c) of document 02, on the tables of document 01's sheet, of annex Д
 // of 002, and on two that show one rounding and a V0 of 0.
 use showing::{field, places_of, refused, say, show_figures};
+use std::io;
 use tankcar::{Car, Density15, Directory, Errors, Permitted, PermittedError};
 
 // Up to four rows of one table of type 1; row 0 is 0 and 0.
@@ -62,18 +63,19 @@ fn errors_of(shares: [u32; 3], temperatures: [u32; 2], level: u32) -> Errors {
     }
 }
 
-fn show_limit(p: Permitted) {
-    show_figures(p.figures);
-    field(p.limit as u64);
+fn show_limit(rt: &impl Print, p: Permitted) -> io::Result<()> {
+    show_figures(rt, p.figures)?;
+    field(rt, p.limit as u64)?;
     if p.within {
-        say(b" within\n");
+        say(rt, b" within\n")?;
     } else {
-        say(b" not within\n");
+        say(rt, b" not within\n")?;
     }
+    Ok(())
 }
 
 // The six figures, the limit, and whether it is within.
-fn show(rows: Rows, car: Car, errors: Errors) {
+fn show(rt: &impl Print, rows: Rows, car: Car, errors: Errors) -> io::Result<()> {
     let given_levels = rows.levels;
     let given_capacities = rows.capacities;
     let levels = places_of(given_levels);
@@ -83,16 +85,17 @@ fn show(rows: Rows, car: Car, errors: Errors) {
         types: [1, 0, 0, 0],
         rows: [rows.count, 0, 0, 0],
     };
-    say(b"permitted error:");
+    say(rt, b"permitted error:")?;
     match tankcar::permitted_error(d, &levels, &capacities, car, errors) {
-        PermittedError::Limit(p) => show_limit(p),
-        PermittedError::Refused(n) => refused(n),
+        PermittedError::Limit(p) => show_limit(rt, p)?,
+        PermittedError::Refused(n) => refused(rt, n)?,
     }
+    Ok(())
 }
 
 // The first car of document 01's sheet, on a row, half a mm and 1 mm above one, with smaller errors and with none; one rounding twice,
 // and a level term of 10,000 and above.
-fn show_rack() {
+fn show_rack(rt: &impl Print) -> io::Result<()> {
     let rack = Rows {
         count: 4,
         levels: [0, 1000, 2000, 3000],
@@ -100,43 +103,56 @@ fn show_rack() {
     };
     let ordinary = errors_of([5000, 1600, 500], [5, 5], 30);
     let level_alone = errors_of([0, 0, 0], [0, 0], 100);
-    show(rack, rack_car(1500, 0), ordinary);
-    show(rack, rack_car(1000, 0), ordinary);
-    show(rack, dipped_car(1000, 1001, 0), ordinary);
-    show(rack, rack_car(1001, 0), ordinary);
+    show(rt, rack, rack_car(1500, 0), ordinary)?;
+    show(rt, rack, rack_car(1000, 0), ordinary)?;
+    show(rt, rack, dipped_car(1000, 1001, 0), ordinary)?;
+    show(rt, rack, rack_car(1001, 0), ordinary)?;
     show(
+        rt,
         rack,
         rack_car(2000, 0),
         errors_of([2500, 500, 500], [2, 2], 20),
-    );
-    show(rack, rack_car(1500, 0), errors_of([0, 0, 0], [0, 0], 0));
-    show(rack, rack_car(1500, 0), errors_of([0, 0, 0], [1, 0], 0));
-    show(rack, rack_car(1000, 0), level_alone);
-    show(rack, rack_car(999, 0), level_alone);
+    )?;
+    show(rt, rack, rack_car(1500, 0), errors_of([0, 0, 0], [0, 0], 0))?;
+    show(rt, rack, rack_car(1500, 0), errors_of([0, 0, 0], [1, 0], 0))?;
+    show(rt, rack, rack_car(1000, 0), level_alone)?;
+    show(rt, rack, rack_car(999, 0), level_alone)?;
+    Ok(())
 }
 
 // Annex Д's car; a level term that is 10,000 by R alone; V0 of 0 and of 1.
-pub(crate) fn show_all() {
-    show_rack();
+pub(crate) fn show_all(rt: &impl Print) -> io::Result<()> {
+    show_rack(rt)?;
     let annex = Rows {
         count: 4,
         levels: [0, 100, 2900, 2910],
         capacities: [0, 435, 72959, 73080],
     };
-    show(annex, annex_car(), errors_of([5000, 1586, 500], [5, 5], 30));
+    show(
+        rt,
+        annex,
+        annex_car(),
+        errors_of([5000, 1586, 500], [5, 5], 30),
+    )?;
     let bent = Rows {
         count: 3,
         levels: [0, 1000, 2000, 0],
         capacities: [0, 1000, 31000, 0],
     };
-    show(bent, rack_car(1989, 971), errors_of([0, 0, 0], [0, 0], 99));
+    show(
+        rt,
+        bent,
+        rack_car(1989, 971),
+        errors_of([0, 0, 0], [0, 0], 99),
+    )?;
     let none = errors_of([0, 0, 0], [0, 0], 0);
     let flat = Rows {
         count: 2,
         levels: [0, 3600, 0, 0],
         capacities: [0, 1, 0, 0],
     };
-    show(flat, rack_car(17, 0), none);
-    show(flat, rack_car(18, 0), none);
-    show(flat, rack_car(19, 18), none);
+    show(rt, flat, rack_car(17, 0), none)?;
+    show(rt, flat, rack_car(18, 0), none)?;
+    show(rt, flat, rack_car(19, 18), none)?;
+    Ok(())
 }

@@ -1,5 +1,6 @@
 // The stick, at a level in tenths of a mm, compared with the tape: a half both ways, 2 mm and beyond, no difference, 28 and 29.
 use showing::{field, refused, say};
+use std::io;
 use tankcar::{Comparison, StickCheck, TAPE_READINGS};
 
 // Twenty readings of one level in mm, but for the first two.
@@ -11,48 +12,51 @@ fn tape_of(first: u32, second: u32, others: u32) -> [u32; TAPE_READINGS] {
 }
 
 // The difference in 0.01 mm with its sign, whether it passes, and the tape allowance in 0.01 mm.
-fn show_comparison(x: Comparison) {
+fn show_comparison(rt: &impl Print, x: Comparison) -> io::Result<()> {
     let difference = x.difference;
     if difference.negative {
-        say(b" minus");
+        say(rt, b" minus")?;
     }
-    field(difference.size as u64);
+    field(rt, difference.size as u64)?;
     if x.passes {
-        say(b" passes");
+        say(rt, b" passes")?;
     } else {
-        say(b" fails");
+        say(rt, b" fails")?;
     }
-    field(x.allowance as u64);
-    say(b"\n");
+    field(rt, x.allowance as u64)?;
+    say(rt, b"\n")?;
+    Ok(())
 }
 
-fn show(stick: u64, count: u32, readings: [u32; TAPE_READINGS]) {
-    say(b"stick,");
-    field(stick);
-    say(b" and");
-    field(count as u64);
-    say(b" readings:");
+fn show(rt: &impl Print, stick: u64, count: u32, readings: [u32; TAPE_READINGS]) -> io::Result<()> {
+    say(rt, b"stick,")?;
+    field(rt, stick)?;
+    say(rt, b" and")?;
+    field(rt, count as u64)?;
+    say(rt, b" readings:")?;
     match tankcar::stick_against_tape(stick, count, readings) {
-        StickCheck::Compared(x) => show_comparison(x),
-        StickCheck::Refused(n) => refused(n),
+        StickCheck::Compared(x) => show_comparison(rt, x)?,
+        StickCheck::Refused(n) => refused(rt, n)?,
     }
+    Ok(())
 }
 
-pub(crate) fn show_all() {
-    show(15000, 16, tape_of(1501, 1501, 1500));
-    show(15000, 16, tape_of(1499, 1499, 1500));
-    show(15001, 16, tape_of(1501, 1501, 1500));
-    show(15000, 12, tape_of(1501, 1500, 1500));
-    show(15000, 10, tape_of(1498, 1498, 1498));
-    show(15020, 20, tape_of(1500, 1500, 1500));
-    show(15021, 20, tape_of(1500, 1500, 1500));
-    show(15000, 10, tape_of(1497, 1498, 1498));
-    show(15000, 20, tape_of(1503, 1502, 1502));
-    show(10000, 20, tape_of(1000, 1000, 1000));
-    show(10001, 20, tape_of(1000, 1000, 1000));
-    show(15000, 9, tape_of(1500, 1500, 1500));
-    show(0, 21, tape_of(1500, 1500, 1500));
-    show(9, 10, tape_of(1500, 1500, 1500));
-    show(36001, 10, tape_of(1500, 1500, 1500));
-    show(15000, 10, tape_of(0, 1500, 1500));
+pub(crate) fn show_all(rt: &impl Print) -> io::Result<()> {
+    show(rt, 15000, 16, tape_of(1501, 1501, 1500))?;
+    show(rt, 15000, 16, tape_of(1499, 1499, 1500))?;
+    show(rt, 15001, 16, tape_of(1501, 1501, 1500))?;
+    show(rt, 15000, 12, tape_of(1501, 1500, 1500))?;
+    show(rt, 15000, 10, tape_of(1498, 1498, 1498))?;
+    show(rt, 15020, 20, tape_of(1500, 1500, 1500))?;
+    show(rt, 15021, 20, tape_of(1500, 1500, 1500))?;
+    show(rt, 15000, 10, tape_of(1497, 1498, 1498))?;
+    show(rt, 15000, 20, tape_of(1503, 1502, 1502))?;
+    show(rt, 10000, 20, tape_of(1000, 1000, 1000))?;
+    show(rt, 10001, 20, tape_of(1000, 1000, 1000))?;
+    show(rt, 15000, 9, tape_of(1500, 1500, 1500))?;
+    show(rt, 0, 21, tape_of(1500, 1500, 1500))?;
+    show(rt, 9, 10, tape_of(1500, 1500, 1500))?;
+    show(rt, 36001, 10, tape_of(1500, 1500, 1500))?;
+    show(rt, 15000, 10, tape_of(0, 1500, 1500))?;
+    Ok(())
 }

@@ -1,31 +1,31 @@
 // What the test programs share: text, numbers, refusals and a car's figures written, and a table of four rows.
+#![tactic(auto)]
+
+use std::io::{self, Write};
+
 use car::Figures;
-use libc::STDOUT_FILENO;
 use table::PLACES;
 
-pub fn say(text: &[u8]) {
-    io::write_all(STDOUT_FILENO, text);
+pub fn say(rt: &impl Print, text: &[u8]) -> io::Result<()> {
+    io::writer(rt).write_all(text)
 }
 
 // A number behind a space.
-pub fn field(n: u64) {
-    say(b" ");
-    io::print_decimal(STDOUT_FILENO, n);
+pub fn field(rt: &impl Print, n: u64) -> io::Result<()> {
+    print!(rt; " {n}")
 }
 
-pub fn refused(n: u32) {
-    say(b" refused");
-    field(n as u64);
-    say(b"\n");
+pub fn refused(rt: &impl Print, n: u32) -> io::Result<()> {
+    print!(rt; " refused {n}\n")
 }
 
-pub fn show_figures(f: Figures) {
-    field(f.number as u64);
-    field(f.level as u64);
-    field(f.v0 as u64);
-    field(f.v15 as u64);
-    field(f.gross as u64);
-    field(f.net as u64);
+pub fn show_figures(rt: &impl Print, f: Figures) -> io::Result<()> {
+    field(rt, f.number as u64)?;
+    field(rt, f.level as u64)?;
+    field(rt, f.v0 as u64)?;
+    field(rt, f.v15 as u64)?;
+    field(rt, f.gross as u64)?;
+    field(rt, f.net as u64)
 }
 
 // Levels or capacities of up to four rows, in the places of four tables; row 0 is 0.

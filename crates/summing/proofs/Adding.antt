@@ -1,5 +1,5 @@
 -- Laws of sums: one car more among others, the grades together, and the tests that the code makes of them.
-use Prim.Native.Nat.{ℕ, zero, suc, ◌+◌, ◌-◌, ◌*◌, ◌≤◌, ◌<◌}
+use Prim.Native.Nat.{ℕ, zero, suc, ◌+◌, ◌-◌, ◌≤◌, ◌<◌}
 use mathlib.Core.Path.{◌≡◌, refl, ap, ap₂, sym, ◌∙◌}
 use mathlib.Core.Logic.{⊎_elim}
 use mathlib.Core.Bool.{Bool, true, false, cond, not, ◌&&◌, true≢false}
@@ -10,10 +10,10 @@ use lib.Dec.{eqb}
 use lib.ListN.{length, get_or, set, drop, length-append, drop_of_length-le}
 use lib.Seq.{drop-cons}
 use borrow.Author.Tests.{eq-eqb, ne_eqb, eqb-true, not-true, not-false}
-use Rattle.base.specs.Limits.{most_cars, grade_count}
+use Rattle.base.specs.Limits.{grade_count}
 use Rattle.base.specs.Lists.{Each}
 use Rattle.base.specs.Total.{total}
-use Rattle.base.proofs.Choice.{below, same, both_hold, cond_either}
+use Rattle.base.proofs.Choice.{same, both_hold}
 use Rattle.base.proofs.Lists.{selected-append}
 use Rattle.base.proofs.Total.{total-append, total_same, total_selected, part_most}
 use Rattle.car.specs.Measured.{gross, net}

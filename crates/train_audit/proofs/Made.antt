@@ -1,21 +1,17 @@
 -- The sums that the code has made of the cars passed so far.
-use Prim.Native.Nat.{ℕ, ◌+◌, ◌-◌, ◌≤◌}
-use mathlib.Core.Path.{◌≡◌, refl, ap, sym, ◌∙◌}
+use Prim.Native.Nat.{ℕ, ◌+◌, ◌≤◌}
+use mathlib.Core.Path.{◌≡◌, ap, sym, ◌∙◌}
 use mathlib.Core.List.{List}
-use mathlib.Core.Logic.{⊎_elim}
-use native.Mathlib.Omega.{arith}
-use lib.ListN.{length, get_or, set, length-set}
-use borrow.Author.Rules.{rules}
-use Rattle.base.specs.Limits.{most_cars, grade_count}
+use lib.ListN.{length, get_or}
+use Rattle.base.specs.Limits.{grade_count}
 use Rattle.summing.specs.declared.Totals.{Totals}
 use Rattle.summing.specs.declared.Sums.{Sums}
-use Rattle.summing.specs.Sums.{sums_of, with_car}
-use Rattle.summing.specs.Inner.{Room, shown_as}
-use Rattle.summing.proofs.Adding.{sums_none, room_none, room_next, room_up, small_next}
+use Rattle.summing.specs.Sums.{sums_of}
+use Rattle.summing.specs.Inner.{Room}
 use Rattle.consist.specs.Train.{Train, held_as, car_at, cars_from, shown_in}
 use Rattle.consist.specs.Inner.{sums_more}
 use Rattle.consist.proofs.Cars.{sums_next}
-use Rattle.train_audit.proofs.Making.{sums_from, none_more, all_more, grade_more, small-set}
+use Rattle.train_audit.proofs.Making.{sums_from}
 
 -- a train with these rows
 pub record Of (gs xs ys : List ℕ) (t : Train) : Type 0 where

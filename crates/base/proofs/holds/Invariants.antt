@@ -1,14 +1,8 @@
 -- `base::holds` meets its contract: what was found so far is what `member` says of the numbers that were passed.
-use Prim.Native.Nat.{ℕ, ◌-◌, ◌≤◌, ◌<◌, min}
-use mathlib.Core.Path.{◌≡◌, refl, ap, ◌∙◌}
-use mathlib.Core.List.{List}
-use mathlib.Core.Logic.{⊎_elim}
-use native.Mathlib.Nat.{min-le_right}
-use native.Mathlib.Omega.{arith}
-use lib.ListN.{length, take}
-use borrow.Author.Rules.{rules}
+use Prim.Native.Nat.{◌-◌, ◌≤◌}
+use mathlib.Core.Path.{◌≡◌}
+use lib.ListN.{take}
 use Rattle.base.specs.Numbers.{member}
-use Rattle.base.proofs.Numbers.{member_hit, member_miss, take_lesser}
 use Rattle.base.proofs.holds.Given as goal
 
 abbrev pub invariant-loop-i : goal.invariant-loop-i

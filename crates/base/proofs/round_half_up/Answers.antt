@@ -1,10 +1,9 @@
 -- `base::round_half_up` meets its contract: the rest decides whether the whole quotient is the nearest number or the one below it.
-use borrow.Author.Rules.{rules}
-use native.Mathlib.Nat.{mod-lt, div-zero}
+use native.Mathlib.Nat.{div-zero}
 use Prim.Native.Nat.{◌<◌}
 use native.Mathlib.Omega.{arith}
 use Rattle.base.specs.Rounding.{rounded}
-use Rattle.base.proofs.Rounding.{round_down, round_up, halves}
+use Rattle.base.proofs.Rounding.{round_down, round_up}
 use Rattle.base.proofs.round_half_up.Goals as goal
 use Rattle.base.proofs.round_half_up.Goals.{Else-d-eq0}
 

@@ -1,9 +1,8 @@
 -- `capacity::capacity_at` meets its contract: the capacity is that of the rows found, and the refusal is the search's.
-use borrow.Author.Rules.{rules}
 use Rattle.table.specs.Layout.{tables_of}
 use mathlib.Core.List.{List}
 use Rattle.table.specs.Table.{Table}
-use Rattle.gauging.proofs.Answers.{capacity_figures, capacity_refused}
+use Rattle.gauging.proofs.Answers.{capacity_figures}
 use Rattle.capacity.proofs.capacity_at.Goals as goal
 use Rattle.capacity.proofs.capacity_at.Goals.{Start}
 

@@ -1,7 +1,6 @@
 -- `capacity::checked_volume` meets its contract: the refusal of the tables, or the answer on tables that are not refused.
 use mathlib.Core.List.{List}
 use mathlib.Core.Path.{sym, ◌∙◌}
-use borrow.Author.Rules.{rules}
 use Rattle.table.specs.Table.{Table}
 use Rattle.table.specs.Layout.{tables_of}
 use Rattle.table.specs.Inner.{Good}

@@ -5,17 +5,16 @@ use mathlib.Core.Bool.{false}
 use mathlib.Core.List.{List, ◌∷◌}
 use mathlib.Core.Path.{◌≡◌, refl, sym, ap, ◌∙◌, subst}
 use mathlib.Core.Logic.{⊎_elim}
-use native.Mathlib.Nat.{sub-zero, le_antisymm}
+use native.Mathlib.Nat.{le_antisymm}
 use native.Mathlib.Omega.{arith}
-use lib.ListN.{length, get_or}
-use borrow.Author.Rules.{rules}
+use lib.ListN.{get_or}
 use Rattle.base.specs.Answer.{first, accepts, Answer, figures}
-use Rattle.base.specs.Limits.{most_tables, most_rows, in_tenths}
+use Rattle.base.specs.Limits.{most_rows, in_tenths}
 use Rattle.base.proofs.Choice.{below, never}
 use Rattle.table.specs.Table.{Row, Table, later_row_bad, later_tests, rows_tests}
-use Rattle.table.specs.Layout.{places, rows_from, table_at, tables_from}
+use Rattle.table.specs.Layout.{rows_from, table_at, tables_from}
 use Rattle.table.proofs.Table.{passing}
-use Rattle.table.proofs.Arrays.{one_left, none_left, row_at, rows_first, rows_none, tables_step, tables_none, GoodTable, good_table}
+use Rattle.table.proofs.Arrays.{one_left, none_left, row_at, rows_first, rows_none, tables_step, GoodTable, good_table}
 use Rattle.table.proofs.Rising.{First, first_row, rising_from_lem}
 use Rattle.gauging.specs.Capacity.{Gap}
 use Rattle.gauging.specs.Inner.{Reaches, gap_at, gap_of, Between, gap_numbers, around_answer, around_told, RowsFound}

@@ -1,27 +1,16 @@
 -- `capacity::rows_around` meets its contract. Over the tables: the answer on all is the answer on those not yet passed. Over the rows:
 -- what is found after the table's first row is found after the row `low`, which does not reach the level.
-use Prim.Native.Nat.{ℕ, suc, ◌+◌, ◌-◌, ◌*◌, ◌≤◌, ◌<◌}
-use mathlib.Core.Bool.{false}
-use mathlib.Core.List.{List, ◌∷◌}
-use mathlib.Core.Path.{◌≡◌, refl, sym, ap, ◌∙◌, subst}
-use mathlib.Core.Logic.{⊎_elim}
-use native.Mathlib.Nat.{sub-zero, le_antisymm}
-use native.Mathlib.Omega.{arith}
+use Prim.Native.Nat.{◌+◌, ◌-◌, ◌≤◌, ◌<◌}
+use mathlib.Core.Path.{◌≡◌}
 use lib.ListN.{length, get_or}
-use borrow.Author.Rules.{rules}
-use Rattle.base.specs.Answer.{first, accepts, Answer, figures}
-use Rattle.base.specs.Limits.{most_tables, most_rows, in_tenths}
-use Rattle.base.proofs.Choice.{below, never}
-use Rattle.table.specs.Table.{Row, Table, later_row_bad, later_tests, rows_tests}
-use Rattle.table.specs.Layout.{places, rows_from, table_at, tables_from}
-use Rattle.table.proofs.Table.{passing}
-use Rattle.table.proofs.Arrays.{one_left, none_left, row_at, rows_first, rows_none, tables_step, tables_none, GoodTable, good_table}
-use Rattle.table.proofs.Rising.{First, first_row, rising_from_lem}
-use Rattle.gauging.specs.Capacity.{Gap}
-use Rattle.gauging.specs.Inner.{Reaches, gap_at, gap_of, Between, gap_numbers, around_answer, around_told, RowsFound}
-use Rattle.gauging.specs.declared.Around.{Around}
+use Rattle.base.specs.Answer.{first, accepts}
+use Rattle.base.specs.Limits.{most_tables, in_tenths}
+use Rattle.table.specs.Table.{later_tests}
+use Rattle.table.specs.Layout.{places, rows_from, tables_from}
+use Rattle.table.proofs.Arrays.{row_at}
+use Rattle.gauging.specs.Inner.{around_answer}
 use Rattle.gauging.specs.declared.Around.TheVariants.{Refused}
-use Rattle.gauging.proofs.Search.{found_after, none_reaches, row_passed, row_reaches, table_chosen, table_skipped, rows_skipped}
+use Rattle.gauging.proofs.Search.{found_after}
 use Rattle.capacity.proofs.rows_around.Given as goal
 
 abbrev pub invariant-loop-low : goal.invariant-loop-low

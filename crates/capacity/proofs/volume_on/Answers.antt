@@ -3,7 +3,6 @@ use Prim.Native.Nat.{ℕ, ◌-◌}
 use mathlib.Core.List.{List, [], ◌∷◌}
 use mathlib.Core.Path.{◌≡◌, sym, ap, ap₂, ◌∙◌}
 use native.Mathlib.Omega.{arith}
-use borrow.Author.Rules.{rules}
 use Rattle.base.specs.Answer.{figures}
 use Rattle.base.specs.Limits.{in_tenths}
 use Rattle.base.proofs.Tests.{tests}
@@ -12,7 +11,7 @@ use Rattle.table.specs.Layout.{tables_of}
 use Rattle.table.proofs.Rising.{tables_rising}
 use Rattle.gauging.specs.Capacity.{v0, capacity_answer, volume_on, volume_told}
 use Rattle.gauging.proofs.Capacity.{capacity_mono}
-use Rattle.gauging.proofs.Answers.{Reached, reached, not_refused, level_refused, Accepted, volume_found, water_refused}
+use Rattle.gauging.proofs.Answers.{Reached, reached, level_refused, Accepted, volume_found, water_refused}
 use Rattle.capacity.proofs.volume_on.Goals as goal
 use Rattle.capacity.proofs.volume_on.Goals.{After-capacity_at-at_water, Else-mean-bottom, In-Hundredths, In-Hundredths-at_water, Start}
 

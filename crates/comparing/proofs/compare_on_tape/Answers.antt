@@ -3,7 +3,6 @@ use Prim.Native.Nat.{ℕ, ◌*◌}
 use mathlib.Core.Path.{◌≡◌, refl, sym, ap, ◌∙◌}
 use mathlib.Core.Bool.{true, false}
 use mathlib.Core.List.{[], ◌∷◌}
-use borrow.Author.Rules.{rules}
 use Rattle.base.specs.Limits.{highest_level, tenths}
 use Rattle.base.specs.Answer.{refuse_if, first, figures, refusal}
 use Rattle.base.proofs.Answer.{one_applies, one_passes, answer_figures, answer_refusal}

@@ -1,15 +1,9 @@
 -- `entering::enter_on` meets its contract: the train's refusals first, then the car's own answer.
-use Prim.Native.Nat.{◌<◌}
 use mathlib.Core.Path.{refl, ap, ◌∙◌}
-use mathlib.Core.List.{List}
-use borrow.Author.Rules.{rules}
-use Rattle.base.specs.Limits.{most_cars}
-use Rattle.table.specs.Table.{Table}
 use Rattle.table.specs.Layout.{tables_of}
 use Rattle.car.specs.Car.{dipped, car_told}
-use Rattle.consist.specs.Train.{Train}
 use Rattle.consist.specs.Lent.{lent_train}
-use Rattle.consist.proofs.Entering.{place_away, place_left, taken_in, graded}
+use Rattle.consist.proofs.Entering.{place_away, taken_in, graded}
 use Rattle.entering.proofs.enter_on.Goals as goal
 
 pub returns-then-refusal-ne0 : goal.returns-then-refusal-ne0

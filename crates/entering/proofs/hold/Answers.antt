@@ -1,8 +1,6 @@
 -- `entering::hold` meets its contract: the rows with one car more are the train with its answer.
 use mathlib.Core.Path.{refl}
 use native.Mathlib.Omega.{arith}
-use borrow.Author.Rules.{rules}
-use Rattle.consist.specs.Train.{Train}
 use Rattle.consist.specs.Lent.{lent_train}
 use Rattle.consist.proofs.Lent.{lent_sums}
 use Rattle.entering.proofs.Stored.{stored}

@@ -3,14 +3,12 @@ use mathlib.Core.Path.{sym, ap, ◌∙◌}
 use Rattle.base.specs.Answer.{refusal}
 use Rattle.base.proofs.Choice.{never}
 use Rattle.reading.specs.Letter.{most_fields}
-use Rattle.car.specs.declared.Car.{Car}
 use Rattle.car.specs.Car.{dipped}
 use Rattle.accuracy.specs.Permitted.{permitted_told}
 use Rattle.marshalling.specs.Handed.{figures_left}
 use Rattle.marshalling.proofs.Handed.{handed, handed_as, right_sized, wrong_sized}
 use Rattle.exported_accuracy.proofs.Lent.{lent}
 use Rattle.marshalling.proofs.Lengths.{PermittedRight, permitted_lengths, tables_copied}
-use borrow.Author.Rules.{rules}
 use Rattle.exported_accuracy.proofs.rack_permitted_error.Goals as goal
 use Rattle.exported_accuracy.proofs.rack_permitted_error.Goals.{Then-permitted_fits}
 

@@ -1,12 +1,9 @@
 -- `field::put_field` meets its contract: what is still to be written, laid over the buffer, is the whole field laid over the lent one.
 use Rattle.field.proofs.Writing.{write_last, write_turn, write_ended}
 use borrow.Author.Rules.{rules}
-use Prim.Native.Nat.{◌+◌, ◌≤◌, ◌<◌}
-use mathlib.Core.Path.{◌≡◌, refl, ◌∙◌}
+use mathlib.Core.Path.{◌∙◌}
 use native.Mathlib.Omega.{arith}
-use Rattle.base.specs.Buffer.{put}
-use lib.ListN.{length, length-set}
-use Rattle.field.specs.Field.{justified}
+use lib.ListN.{length-set}
 use Rattle.field.proofs.put_field.Goals as goal
 
 pub loop-i-preserved : goal.loop-i-preserved

@@ -1,10 +1,9 @@
 -- `field::read_field` meets its contract: the loop has seen what the definition sees in the columns passed.
 use Rattle.field.proofs.Reading.{past, turn, ended}
 use borrow.Author.Rules.{rules}
-use Prim.Native.Nat.{◌-◌, ◌≤◌}
-use mathlib.Core.Path.{◌≡◌, sym, ap, ◌∙◌}
+use mathlib.Core.Path.{sym, ap, ◌∙◌}
 use native.Mathlib.Omega.{arith}
-use Rattle.field.specs.Field.{columns, seen_to, finish}
+use Rattle.field.specs.Field.{seen_to, finish}
 use Rattle.field.proofs.read_field.Goals as goal
 
 pub returns-then-s-lt-COLUMNS : goal.returns-then-s-lt-COLUMNS

@@ -1,7 +1,6 @@
 -- `field::write_field` meets its contract: what does not fit leaves the buffer as lent, and `put_field` writes the rest.
 use mathlib.Core.Path.{sym, ◌∙◌}
 use native.Mathlib.Omega.{arith}
-use borrow.Author.Rules.{rules}
 use Rattle.field.proofs.Writing.{too_large, no_room, fits, field_written}
 use Rattle.field.proofs.write_field.Goals as goal
 

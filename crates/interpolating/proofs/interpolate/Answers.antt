@@ -4,7 +4,6 @@ use Prim.Native.Nat.{ℕ, ◌+◌, ◌-◌, ◌*◌, ◌≤◌}
 use mathlib.Core.Path.{◌≡◌}
 use native.Mathlib.Nat.{mul-le-mul}
 use native.Mathlib.Omega.{arith}
-use borrow.Author.Rules.{rules}
 use Rattle.base.specs.Limits.{in_tenths, highest_level, greatest_capacity}
 use Rattle.table.proofs.Rising.{Follows, follows}
 use Rattle.gauging.specs.Inner.{gap_of}

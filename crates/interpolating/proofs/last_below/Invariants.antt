@@ -1,9 +1,5 @@
 -- `interpolating::last_below` meets its contract: the row found is the first, or does not reach the level.
 use Prim.Native.Nat.{◌+◌, ◌-◌, ◌*◌, ◌≤◌}
-use mathlib.Core.Path.{sym, subst}
-use mathlib.Core.Logic.{⊎_elim}
-use native.Mathlib.Omega.{arith}
-use borrow.Author.Rules.{rules}
 use Rattle.table.specs.Layout.{places}
 use Rattle.gauging.specs.Inner.{RowBelow}
 use Rattle.interpolating.proofs.last_below.Given as goal

@@ -1,6 +1,5 @@
 -- `lettering::read_line` meets its contract: the line from the start, which ends at its first line feed and writes back.
 use mathlib.Core.Path.{ap, ◌∙◌}
-use borrow.Author.Rules.{rules}
 use Rattle.reading.specs.Reading.{any}
 use Rattle.reading.specs.Tests.{line_told}
 use Rattle.reading.proofs.Answers.{line_told_lem}

@@ -1,12 +1,10 @@
 -- `level::are_scattered` meets its contract: at each `return` the tests that led there give those of the definition.
 use Prim.Native.Nat.{ℕ, ◌≤◌}
-use mathlib.Core.Path.{refl, ◌∙◌, ap, sym, subst⁻¹}
+use mathlib.Core.Path.{refl, subst⁻¹}
 use mathlib.Core.List.{List}
-use lib.Dec.{ltb}
 use lib.ListN.{get_or}
 use borrow.Author.Rules.{rules}
-use Rattle.base.proofs.Tests.{decide}
-use Rattle.dip.specs.Level.{sorted, span}
+use Rattle.dip.specs.Level.{sorted}
 use Rattle.dip.proofs.Sorting.{rising, closest_rising}
 use Rattle.level.proofs.are_scattered.Goals as goal
 

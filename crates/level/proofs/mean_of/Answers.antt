@@ -1,6 +1,5 @@
 -- `level::mean_of` meets its contract: the test chooses, and what is chosen is what the call ensures.
 use mathlib.Core.Path.{◌∙◌, ap, sym}
-use borrow.Author.Rules.{rules}
 use Rattle.dip.specs.Level.{mean_level, mean_of_three}
 use Rattle.level.proofs.mean_of.Goals as goal
 

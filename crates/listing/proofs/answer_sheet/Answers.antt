@@ -5,7 +5,7 @@ use borrow.Author.Rules.{rules}
 use Rattle.base.specs.Limits.{most_car_lines, most_strikes}
 use Rattle.answers.proofs.Reconciled.{too_short, answered}
 use Rattle.holding.proofs.Arrays.{few_lines}
-use Rattle.listing.proofs.Read.{refused_read, whole_read, refused_proper, whole_proper}
+use Rattle.listing.proofs.Read.{refused_read, whole_read, whole_proper}
 use Rattle.listing.proofs.answer_sheet.Goals as goal
 use Rattle.listing.proofs.answer_sheet.Goals.{After-struct_known-1}
 

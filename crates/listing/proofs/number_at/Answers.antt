@@ -5,7 +5,6 @@ use Prim.Native.Nat.{◌*◌}
 use lib.ListN.{drop}
 use Rattle.holding.specs.Layout.{line_places}
 use lib.Seq.{get_or-take, get_or-drop}
-use borrow.Author.Rules.{rules}
 use Rattle.listing.proofs.number_at.Goals as goal
 
 pub returns : goal.returns

@@ -1,7 +1,5 @@
 -- `mass::cold_volume` meets its contract: the product of a hot volume and E fits.
-use borrow.Author.Rules.{rules}
 use mathlib.Core.Path.{◌≡◌}
-use native.Mathlib.Nat.{mul-le-mul}
 use native.Mathlib.Omega.{arith}
 use Rattle.kilograms.specs.Steps
 use Rattle.kilograms.specs.Steps.{cold_volume}

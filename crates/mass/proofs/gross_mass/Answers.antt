@@ -1,6 +1,5 @@
 -- `mass::gross_mass` meets its contract: the product of a volume and a density in range fits.
 use borrow.Author.Rules.{rules}
-use native.Mathlib.Nat.{mul-le-mul}
 use native.Mathlib.Omega.{arith}
 use Rattle.kilograms.specs.Steps.{gross}
 use Rattle.kilograms.proofs.Bounds.{gross_most}

@@ -1,9 +1,7 @@
 -- `mass::hot_volume` meets its contract: the swelling is at most 20,084,700, and its product with a volume in range fits.
 use borrow.Author.Rules.{rules}
-use native.Mathlib.Nat.{mul-le-mul}
 use native.Mathlib.Omega.{arith}
 use Rattle.kilograms.specs.Steps.{hot_volume}
-use Rattle.kilograms.proofs.Budget.{swelling_most}
 use Rattle.kilograms.proofs.Bounds.{hot_volume_most}
 use Rattle.mass.proofs.hot_volume.Goals as goal
 

@@ -1,5 +1,4 @@
 -- `mass::masses_of` meets its contract: each step is worked out on what the one before gave, within the bounds of the budget.
-use borrow.Author.Rules.{rules}
 use mathlib.Core.Path.{◌≡◌}
 use Prim.Native.Nat.{◌≤◌}
 use Rattle.kilograms.specs.Inner.{most_coefficient, most_hot_volume, most_cold_volume}

@@ -1,8 +1,5 @@
 -- `mass::net_mass` meets its contract: the share of oil is at most all, and net is no more than gross.
-use borrow.Author.Rules.{rules}
 use mathlib.Core.Path.{◌≡◌}
-use Prim.Native.Nat.{◌≤◌}
-use native.Mathlib.Nat.{mul-le-mul_left}
 use native.Mathlib.Omega.{arith}
 use Rattle.kilograms.specs.Steps.{net}
 use Rattle.kilograms.proofs.Bounds.{net_le_gross}

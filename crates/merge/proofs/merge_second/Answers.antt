@@ -4,9 +4,9 @@ use mathlib.Core.List.{[]}
 use borrow.Author.Rules.{rules}
 use Rattle.table.specs.Layout.{tables_of}
 use Rattle.holding.specs.Layout.{history_of}
-use Rattle.merge_spec.specs.Merge.{Half, holds, half_of}
+use Rattle.merge_spec.specs.Merge.{Half, holds}
 use Rattle.merge_spec.specs.Inner.{kept_from, Merged, merged_of, reply_to, written_for}
-use Rattle.merge.proofs.Answers.{refused_read, whole_good, whole_text, whole_few, whole_half}
+use Rattle.merge.proofs.Answers.{whole_good, whole_text, whole_few, whole_half}
 use Rattle.merge.proofs.merge_second.Goals as goal
 
 pub overflow_add-contents : goal.overflow_add-contents

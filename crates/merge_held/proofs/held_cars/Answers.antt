@@ -1,8 +1,5 @@
 -- `merge_held::held_cars` meets its contract: each turn keeps a car, turns it away, or takes one out.
-use Prim.Native.Nat.{◌-◌}
-use mathlib.Core.Path.{refl}
-use borrow.Author.Rules.{rules}
-use Rattle.merge_held.proofs.Keeping.{Keeping, keeping_none, keeping_car, keeping_strike, keeping_all}
+use Rattle.merge_held.proofs.Keeping.{keeping_car, keeping_strike}
 use Rattle.merge_held.proofs.held_cars.Goals as goal
 use Rattle.merge_held.proofs.held_cars.Goals.{then-mark-eq-CAR_MARK, else-mark-eq-CAR_MARK}
 

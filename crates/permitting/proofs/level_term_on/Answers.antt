@@ -1,15 +1,11 @@
 -- `permitting::level_term_on` meets its contract: an accepted car's level is on its table, so that the rows around it are found.
 use Prim.Native.Nat.{ℕ}
 use mathlib.Core.Path.{ap₂, ◌∙◌}
-use mathlib.Core.List.{List}
-use Rattle.table.specs.Table.{Table}
 use Rattle.table.specs.Layout.{tables_of}
 use Rattle.gauging.specs.Capacity.{Gap}
-use Rattle.gauging.proofs.Answers.{around_rows, rows_not_refused}
-use Rattle.car.proofs.Accepted.{known, low}
+use Rattle.gauging.proofs.Answers.{around_rows}
 use Rattle.accuracy.specs.Terms.{level_term}
 use Rattle.accuracy.specs.Permitted.{level_term_of}
-use borrow.Author.Rules.{rules}
 use Rattle.permitting.proofs.level_term_on.Goals as goal
 
 pub returns-in-Rows : goal.returns-in-Rows

@@ -6,19 +6,14 @@ use mathlib.Core.List.{List, [], ◌∷◌, ◌++◌}
 use native.Mathlib.Omega.{arith}
 use Rattle.base.specs.Answer.{Answer, figures, refusal}
 use Rattle.base.specs.Numbers.{one_if}
-use Rattle.table.specs.Table.{Table}
 use Rattle.table.specs.Layout.{tables_of}
-use Rattle.heating.specs.Steps.{expansion}
 use Rattle.heating.proofs.Bounds.{expansion_most}
-use Rattle.grading.specs.Inner.{FieldsInRange}
 use Rattle.car.proofs.Accepted.{fields}
 use Rattle.accuracy.specs.Limit.{IsLimit, within}
 use Rattle.accuracy.specs.Terms.{terms, sum_of_squares}
 use Rattle.accuracy.specs.Permitted.{most_level_term, level_term_of, terms_of}
-use Rattle.accuracy.specs.Inner.{ErrorsInRange}
 use Rattle.accuracy.proofs.Answers.{limited, turned_away_lem}
 use Rattle.accuracy.proofs.Parts.{in_range, errors_away, no_volume, too_large, all_passed}
-use borrow.Author.Rules.{rules}
 use Rattle.permitting.proofs.limit_beside.Goals as goal
 
 abbrev values : Answer → List ℕ

@@ -1,8 +1,5 @@
 -- `permitting::permitted_error` meets its contract: the car's answer, then the limit beside its figures.
 use mathlib.Core.Path.{◌≡◌}
-use mathlib.Core.List.{List}
-use borrow.Author.Rules.{rules}
-use Rattle.table.specs.Table.{Table}
 use Rattle.table.specs.Layout.{tables_of}
 use Rattle.car.specs.Car.{measured, dipped}
 use Rattle.accuracy.specs.Permitted.{permitted_told}

@@ -3,7 +3,6 @@ use Prim.Native.Nat.{◌+◌}
 use mathlib.Core.Path.{ap, ◌∙◌}
 use native.Mathlib.Omega.{arith}
 use Rattle.printing.proofs.Appending.{laid_width, never_refused, laid_bytes, fits}
-use borrow.Author.Rules.{rules}
 use Rattle.printing.proofs.append_line.Goals as goal
 
 pub overflow_add-result : goal.overflow_add-result

@@ -1,12 +1,7 @@
 -- `printing::write_totals` meets its contract: S, and each turn writes a grade's line.
 use Prim.Native.Nat.{◌-◌}
-use mathlib.Core.Path.{◌∙◌}
-use native.Mathlib.Omega.{arith}
-use borrow.Author.Rules.{rules}
 use Rattle.base.specs.Limits.{grade_count}
-use Rattle.answers.specs.Listing.{grade_lines, totals_lines}
-use Rattle.printing.proofs.Laid.{Laid}
-use Rattle.printing.proofs.Totals.{first_room, first_laid, Closed, none_closed, of_grade_lem, grade_room, grade_turn, closed}
+use Rattle.printing.proofs.Totals.{Closed}
 use Rattle.printing.proofs.write_totals.Given as goal
 
 abbrev pub invariant-loop-i : goal.invariant-loop-i

@@ -1,9 +1,8 @@
 -- `probe::nearest_tenths` meets its contract: the laws of cutting, at what each arm knows.
-use Prim.Native.Nat.{◌*◌, ◌^◌}
+use Prim.Native.Nat.{◌^◌}
 use mathlib.Core.Path.{refl}
 use native.Mathlib.Omega.{arith}
-use lib.Pow.{pow_pos, shr_le}
-use borrow.Author.Rules.{rules}
+use lib.Pow.{pow_pos}
 use Rattle.probe_spec.proofs.Cutting.{cut_shown, cut_refused, cut_away}
 use Rattle.probe.proofs.nearest_tenths.Goals as goal
 

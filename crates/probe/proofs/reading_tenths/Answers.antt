@@ -1,6 +1,5 @@
 -- `probe::reading_tenths` meets its contract: what its two calls ensure, and the card.
 use mathlib.Core.Path.{ap, ◌∙◌}
-use borrow.Author.Rules.{rules}
 use Rattle.probe_spec.specs.Tenths.{tenths_answer}
 use Rattle.probe_spec.proofs.Nearest.{floats_right}
 use Rattle.probe_spec.proofs.AgainstCard.{probe_right}

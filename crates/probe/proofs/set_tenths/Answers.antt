@@ -1,5 +1,4 @@
 -- `probe::set_tenths` meets its contract: what each call ensures, with the case that its arm knows.
-use borrow.Author.Rules.{rules}
 use Rattle.probe_spec.proofs.Answers.{level_away, temperature_away, density_away, all_shown}
 use Rattle.probe.proofs.set_tenths.Goals as goal
 

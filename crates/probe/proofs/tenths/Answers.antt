@@ -3,10 +3,9 @@ use mathlib.Core.Path.{sym, subst}
 use native.Mathlib.Omega.{arith}
 use lib.Dec.{T}
 use lib.Ieee.{of_bits, binary32, fits}
-use borrow.Author.Rules.{rules}
-use Rattle.probe_spec.proofs.Comparing.{no_nan, refused_low}
+use Rattle.probe_spec.proofs.Comparing.{refused_low}
 use Rattle.probe_spec.proofs.Answers.{no_number_lem}
-use Rattle.probe_spec.proofs.Bits.{few_digits, infinite, of_digits, of_significand, of_great}
+use Rattle.probe_spec.proofs.Bits.{infinite, of_digits, of_significand, of_great}
 use Rattle.probe.proofs.tenths.Goals as goal
 use Rattle.probe.proofs.tenths.Goals.{Start}
 

@@ -1,8 +1,6 @@
 -- `quick::long_field` meets its contract.
-use native.Mathlib.Omega.{arith}
 use borrow.Author.Tests.{eq-eqb}
 use Rattle.quick.proofs.Columns.{short_read, long_read}
-use borrow.Author.Rules.{rules}
 use Rattle.quick.proofs.long_field.Goals as goal
 
 pub returns-then-n-le-LARGEST : goal.returns-then-n-le-LARGEST

@@ -1,7 +1,6 @@
 -- `quick::short_field` meets its contract.
 use Rattle.quick.proofs.Columns.{short_read}
 use borrow.Author.Tests.{eq-eqb}
-use borrow.Author.Rules.{rules}
 use Rattle.quick.proofs.short_field.Goals as goal
 
 pub returns-then-n-le-LARGEST : goal.returns-then-n-le-LARGEST

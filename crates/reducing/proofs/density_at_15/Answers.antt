@@ -4,7 +4,6 @@ use mathlib.Core.Path.{◌≡◌, ap, ◌∙◌}
 use mathlib.Core.Bool.{Bool, false}
 use mathlib.Core.List.{[], ◌∷◌}
 use native.Mathlib.Omega.{arith}
-use borrow.Author.Rules.{rules}
 use Rattle.base.specs.Answer.{refuse_if, first_number}
 use Rattle.base.proofs.Answer.{alone_applies, alone_passes}
 use Rattle.laboratory.specs.declared.Report.{Report}
@@ -15,7 +14,7 @@ use Rattle.laboratory.specs.Answers.{temperature_bad, ReportAnswer, OnlyAnswer, 
 use Rattle.laboratory.specs.Told.{ToldOnly}
 use Rattle.laboratory.specs.Card.{ReportsRight}
 use Rattle.laboratory.proofs.Answers.{turned_away_lem, too_far, found, only_answer}
-use Rattle.laboratory.proofs.Told.{temperature_in, told_only}
+use Rattle.laboratory.proofs.Told.{told_only}
 use Rattle.laboratory.proofs.AgainstCard.{reports_right}
 use Rattle.reducing.proofs.density_at_15.Goals as goal
 use Rattle.reducing.proofs.density_at_15.Goals.{Else-by_temperature-ne0}

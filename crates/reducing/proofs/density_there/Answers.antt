@@ -1,6 +1,4 @@
 -- `reducing::density_there` meets its contract.
-use native.Mathlib.Omega.{arith}
-use Rattle.thermal_stored.proofs.Known.{known}
 use Rattle.laboratory.specs.Nearest.{density_there}
 use Rattle.reducing.proofs.density_there.Goals as goal
 

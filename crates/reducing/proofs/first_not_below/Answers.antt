@@ -1,10 +1,7 @@
 -- `reducing::first_not_below` meets its contract. The invariant: below `low` every density there is below the report, at `high` it is not,
 -- unless `high` is the last field.
-use Prim.Native.Nat.{ℕ, ◌+◌, ◌-◌, ◌/◌, ◌≤◌, ◌<◌}
-use mathlib.Core.Path.{◌≡◌}
+use Prim.Native.Nat.{◌+◌, ◌/◌}
 use native.Mathlib.Omega.{arith}
-use Rattle.heating.specs.Limits.{lowest_density, highest_density}
-use Rattle.laboratory.specs.Nearest.{density_there}
 use Rattle.laboratory.proofs.Neighbours.{mono}
 use Rattle.reducing.proofs.first_not_below.Goals as goal
 

@@ -1,11 +1,8 @@
 -- `reducing::first_not_below` meets its contract. The invariant: below `low` every density there is below the report, at `high` it is not,
 -- unless `high` is the last field.
-use Prim.Native.Nat.{ℕ, ◌+◌, ◌-◌, ◌/◌, ◌≤◌, ◌<◌}
-use mathlib.Core.Path.{◌≡◌}
-use native.Mathlib.Omega.{arith}
+use Prim.Native.Nat.{ℕ, ◌-◌, ◌≤◌, ◌<◌}
 use Rattle.heating.specs.Limits.{lowest_density, highest_density}
 use Rattle.laboratory.specs.Nearest.{density_there}
-use Rattle.laboratory.proofs.Neighbours.{mono}
 use Rattle.reducing.proofs.first_not_below.Given as goal
 
 abbrev pub invariant-loop-low : goal.invariant-loop-low

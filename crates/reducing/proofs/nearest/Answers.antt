@@ -1,5 +1,4 @@
 -- `reducing::nearest` meets its contract: of the field found by halving and the one before it the nearer is taken, on a tie the smaller.
-use borrow.Author.Rules.{rules}
 use native.Mathlib.Omega.{arith}
 use Rattle.laboratory.proofs.Halving.{first_nearest, this_nearest, before_nearest}
 use Rattle.reducing.proofs.nearest.Goals as goal

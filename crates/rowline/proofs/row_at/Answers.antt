@@ -1,10 +1,7 @@
 -- `rowline::row_at` meets its contract: a line has passed its tests, or fails one of them.
 use mathlib.Core.Path.{◌∙◌}
-use mathlib.Core.Logic.{⊎_elim}
 use native.Mathlib.Omega.{arith}
-use borrow.Author.Tests.{eqb-true, eqb-false, ltb-true, ltb-false}
 use Rattle.reading.proofs.Row.{row_some, row_none}
-use borrow.Author.Rules.{rules}
 use Rattle.rowline.proofs.row_at.Goals as goal
 use Rattle.rowline.proofs.row_at.Goals.{then-at-s+then-s-at-gt-ROW_FEED+then-s-at-eq82+then-s-at-eq10+then-first-le-LARGEST+else-second-le-LARGEST, then-at-s+then-s-at-gt-ROW_FEED+then-s-at-eq82+then-s-at-eq10+else-first-le-LARGEST, else-at-s, else-at-s-via-then-at-s+then-s-at-gt-ROW_FEED+then-s-at-eq82+else-s-at-eq10, else-at-s-via-then-at-s+then-s-at-gt-ROW_FEED+else-s-at-eq82, else-at-s-via-then-at-s+else-s-at-gt-ROW_FEED, else-at-s-via-else-at-s}
 

@@ -1,10 +1,7 @@
 -- `rowtests::row_bad` meets its contract: the row before is the last of the rows.
-use Prim.Native.Nat.{ℕ}
-use mathlib.Core.Path.{ap, sym, ◌∙◌}
+use mathlib.Core.Path.{sym, ◌∙◌}
 use native.Mathlib.Omega.{arith}
-use borrow.Author.Rules.{rules}
-use Rattle.table.specs.Table.{row_of, row_bad}
-use Rattle.table.specs.Layout.{rows_from}
+use Rattle.table.specs.Table.{row_of}
 use Rattle.table.proofs.Arrays.{row_later}
 use Rattle.rowtests.proofs.row_bad.Goals as goal
 

@@ -1,9 +1,6 @@
 -- `scanning::feed_at` meets its contract: the first line feed from the start is the first from the place reached.
 use borrow.Author.Rules.{rules}
-use Prim.Native.Nat.{◌-◌, ◌≤◌}
-use mathlib.Core.Path.{◌≡◌, sym, ◌∙◌}
-use lib.ListN.{length}
-use Rattle.reading.specs.Reading.{feed_at}
+use mathlib.Core.Path.{sym, ◌∙◌}
 use Rattle.reading.proofs.Fields.{feed_past, feed_here, feed_none}
 use Rattle.scanning.proofs.feed_at.Goals as goal
 

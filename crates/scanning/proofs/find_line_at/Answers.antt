@@ -1,7 +1,6 @@
 -- `scanning::find_line_at` meets its contract: each return is the line of the definition under the tests before it.
 use mathlib.Core.Path.{sym, ◌∙◌}
 use Rattle.reading.proofs.Lines.{line_none, line_letter, Opening, line-length, line_fields, line_read}
-use borrow.Author.Rules.{rules}
 use Rattle.scanning.proofs.find_line_at.Goals as goal
 use Rattle.scanning.proofs.find_line_at.Goals.{After-count_of-k}
 

@@ -1,7 +1,6 @@
 -- `scanning::letter_of` meets its contract: each return follows from the tests before it.
 use Rattle.base.proofs.Tests.{tests}
 use Rattle.reading.specs.Reading.{letter_of}
-use borrow.Author.Rules.{rules}
 use Rattle.scanning.proofs.letter_of.Goals as goal
 
 pub returns-then-b-eq84 : goal.returns-then-b-eq84

@@ -1,10 +1,7 @@
 -- `scanning::numbers_at` meets its contract: the fields passed are numbers, and the list holds them.
 use borrow.Author.Rules.{rules}
-use Prim.Native.Nat.{◌-◌, ◌≤◌}
-use mathlib.Core.Path.{◌≡◌}
-use mathlib.Core.Bool.{true}
-use Rattle.reading.specs.Reading.{good, values, filled}
-use Rattle.reading.proofs.Fields.{good_more, values_more, numbers_bad, numbers_done}
+use Rattle.reading.specs.Reading.{good, values}
+use Rattle.reading.proofs.Fields.{good_more, values_more, numbers_bad}
 use Rattle.scanning.proofs.numbers_at.Goals as goal
 
 pub loop-j-init : goal.loop-j-init

@@ -1,10 +1,8 @@
 -- `scanning::numbers_at` meets its contract: the fields passed are numbers, and the list holds them.
-use borrow.Author.Rules.{rules}
 use Prim.Native.Nat.{◌-◌, ◌≤◌}
 use mathlib.Core.Path.{◌≡◌}
 use mathlib.Core.Bool.{true}
 use Rattle.reading.specs.Reading.{good, values, filled}
-use Rattle.reading.proofs.Fields.{good_more, values_more, numbers_bad, numbers_done}
 use Rattle.scanning.proofs.numbers_at.Given as goal
 
 abbrev pub invariant-loop-j : goal.invariant-loop-j

@@ -2,7 +2,6 @@
 use mathlib.Core.Path.{sym}
 use native.Mathlib.Omega.{arith}
 use Rattle.reading.proofs.Lines.{line_quick}
-use borrow.Author.Rules.{rules}
 use Rattle.scanning.proofs.read_line_at.Goals as goal
 
 pub returns-then-n : goal.returns-then-n

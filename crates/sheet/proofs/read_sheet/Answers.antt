@@ -1,9 +1,9 @@
 -- `sheet::read_sheet` meets its contract: the lines from the place reached bring what the whole sheet does.
-use Prim.Native.Nat.{◌-◌, ◌≤◌, ◌<◌}
+use Prim.Native.Nat.{◌<◌}
 use mathlib.Core.Path.{◌≡◌, refl, ap, ◌∙◌}
 use native.Mathlib.Omega.{arith}
 use lib.ListN.{length}
-use Rattle.grammar.specs.Sheet.{longest, refused_at, State, read_from, sheet_of}
+use Rattle.grammar.specs.Sheet.{longest, refused_at, State, read_from}
 use Rattle.grammar.specs.ByGrammar.{too_long}
 use Rattle.grammar.specs.Inner.{SoundState, LinesRead, Onward}
 use Rattle.grammar.proofs.Turns.{sheet_long, sheet_short, sound_start, went_on, is_over}
@@ -13,7 +13,6 @@ use Rattle.holding.specs.declared.Outcome.TheVariants.{RefusedAt}
 use Rattle.holding.specs.Layout.{outcome_told}
 use Rattle.holding.specs.Inner.{state_in, step_by}
 use Rattle.sheet.proofs.Held.{sound_reader, bounded, finish}
-use borrow.Author.Rules.{rules}
 use Rattle.sheet.proofs.read_sheet.Goals as goal
 use Rattle.sheet.proofs.read_sheet.Goals.{After-take_rows-taken, In-Next}
 

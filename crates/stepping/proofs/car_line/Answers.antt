@@ -6,7 +6,7 @@ use native.Mathlib.Omega.{arith}
 use lib.ListN.{length}
 use borrow.Author.Tests.{le-leb, lt-leb}
 use Rattle.reading.specs.Letter.{most_fields}
-use Rattle.holding.specs.Layout.{line_places, car_mark, history_from}
+use Rattle.holding.specs.Layout.{car_mark, history_from}
 use Rattle.holding.specs.Inner.{state_in}
 use Rattle.holding.proofs.Arrays.{line_more}
 use Rattle.grammar.proofs.Rules.{car_refused, car_taken}

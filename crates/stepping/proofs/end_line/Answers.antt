@@ -1,7 +1,6 @@
 -- `stepping::end_line` meets its contract: each return follows from the tests before it.
 use Rattle.base.proofs.Tests.{tests}
 use Rattle.grammar.specs.Sheet.{end_line}
-use borrow.Author.Rules.{rules}
 use Rattle.stepping.proofs.end_line.Goals as goal
 
 pub returns-then-count-reader : goal.returns-then-count-reader

@@ -15,11 +15,10 @@ use Rattle.reading.specs.declared.LineRead.{LineRead}
 use Rattle.reading.specs.Reading.{letter_of, line_at}
 use Rattle.reading.proofs.Letters.{found}
 use Rattle.reading.proofs.Lines.{is_line}
-use Rattle.grammar.specs.Sheet.{State, due_of, by_letter, step_of}
+use Rattle.grammar.specs.Sheet.{due_of, by_letter, step_of}
 use Rattle.holding.specs.Inner.{state_in}
 use Rattle.holding.proofs.Arrays.{due_held}
 use Rattle.grammar.proofs.Steps.{step_read, row_owed}
-use borrow.Author.Rules.{rules}
 use Rattle.stepping.proofs.read_step.Goals as goal
 use Rattle.stepping.proofs.read_step.Goals.{After-read_line_at-line, In-Read}
 

@@ -6,7 +6,7 @@ use native.Mathlib.Omega.{arith}
 use lib.ListN.{length, get_or}
 use borrow.Author.Tests.{le-leb, lt-leb}
 use Rattle.reading.specs.Letter.{most_fields}
-use Rattle.holding.specs.Layout.{line_places, strike_mark, history_from}
+use Rattle.holding.specs.Layout.{strike_mark, history_from}
 use Rattle.holding.specs.Inner.{state_in}
 use Rattle.holding.proofs.Arrays.{line_more}
 use Rattle.grammar.proofs.Rules.{strike_refused, strike_taken}

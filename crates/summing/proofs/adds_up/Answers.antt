@@ -3,7 +3,6 @@ use mathlib.Core.Path.{◌≡◌, sym, ◌∙◌}
 use mathlib.Core.Bool.{true, false}
 use lib.Dec.{eqb}
 use lib.ListN.{length}
-use borrow.Author.Tests.{not-true, not-false}
 use Rattle.base.specs.Limits.{grade_count}
 use Rattle.base.proofs.Lists.{length_under}
 use Rattle.car.specs.Measured.{gross}

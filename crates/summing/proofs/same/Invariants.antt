@@ -1,15 +1,10 @@
 -- `summing::same` meets its contract: the grades that were passed are the same.
-use Prim.Native.Nat.{◌+◌, ◌-◌, ◌≤◌}
-use mathlib.Core.Path.{◌≡◌, refl, ap, ap₂, sym, ◌∙◌}
-use mathlib.Core.Bool.{Bool, true, false, ◌&&◌}
-use native.Mathlib.Omega.{arith}
-use lib.ListN.{length, get_or, drop}
+use Prim.Native.Nat.{◌-◌, ◌≤◌}
+use mathlib.Core.Path.{◌≡◌}
+use mathlib.Core.Bool.{true}
+use lib.ListN.{drop}
 use Rattle.base.specs.Limits.{grade_count}
-use Rattle.base.proofs.Lists.{length_under}
-use Rattle.summing.specs.declared.Sums.{Sums}
-use Rattle.summing.specs.Sums.{no_totals, same_totals, same_each}
-use Rattle.summing.proofs.Adding.{each_next, each_passed, apart, alike}
-use borrow.Author.Rules.{rules}
+use Rattle.summing.specs.Sums.{same_totals, same_each}
 use Rattle.summing.proofs.same.Given as goal
 
 abbrev pub invariant-loop-i : goal.invariant-loop-i

@@ -1,13 +1,12 @@
 -- `tabletests::check_rows` meets its contract: the tests of all rows come out as those of the rows not yet passed, behind the last one passed.
-use Prim.Native.Nat.{suc, ◌+◌, ◌-◌, ◌≤◌}
+use Prim.Native.Nat.{◌+◌, ◌-◌}
 use mathlib.Core.List.{◌∷◌}
 use mathlib.Core.Path.{◌≡◌, sym, ap, ◌∙◌}
-use native.Mathlib.Omega.{arith}
 use borrow.Author.Rules.{rules}
-use Rattle.base.specs.Answer.{first, number_of}
+use Rattle.base.specs.Answer.{first}
 use Rattle.table.specs.Table.{row_of, later_tests, rows_tests}
-use Rattle.table.specs.Layout.{places, rows_from}
-use Rattle.table.proofs.Arrays.{one_left, none_left, row_at, rows_first, rows_none}
+use Rattle.table.specs.Layout.{rows_from}
+use Rattle.table.proofs.Arrays.{one_left, row_at, rows_first}
 use Rattle.tabletests.proofs.check_rows.Goals as goal
 use Rattle.tabletests.proofs.check_rows.Goals.{In-loop-i}
 

@@ -1,6 +1,5 @@
 -- `tape::tape_allowance` meets its contract: at each `return` the tests that led there give the formula's answer, which is the list's.
 use native.Mathlib.Omega.{arith}
-use borrow.Author.Rules.{rules}
 use Rattle.base.proofs.Tests.{decide}
 use Rattle.dip.specs.Formula.{formula_answer}
 use Rattle.dip.proofs.Formula.{formula_figure, formula_right}

@@ -1,9 +1,7 @@
 -- `terms::density_factor` meets its contract: B times a temperature is at most 693,924,300.
-use native.Mathlib.Nat.{mul-le-mul}
 use native.Mathlib.Omega.{arith}
 use Rattle.accuracy.specs.Terms.{density_factor}
 use Rattle.accuracy.proofs.Bounds.{density_factor_most}
-use borrow.Author.Rules.{rules}
 use Rattle.terms.proofs.density_factor.Goals as goal
 
 pub returns : goal.returns

@@ -1,10 +1,6 @@
 -- `terms::limit_of` meets its contract. The invariant: `high` is enough, and whatever is enough is not below `low`.
-use Prim.Native.Nat.{ℕ, ◌+◌, ◌-◌, ◌*◌, ◌/◌, ◌≤◌}
-use mathlib.Core.Path.{◌≡◌}
-use native.Mathlib.Nat.{mul-le-mul}
-use native.Mathlib.Omega.{arith}
+use Prim.Native.Nat.{ℕ, ◌-◌, ◌*◌, ◌≤◌}
 use Rattle.accuracy.specs.Inner.{most_limit}
-use Rattle.accuracy.proofs.Limit.{above_short}
 use Rattle.terms.proofs.limit_of.Given as goal
 
 abbrev pub invariant-loop-low : goal.invariant-loop-low

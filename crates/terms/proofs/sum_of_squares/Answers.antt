@@ -6,7 +6,6 @@ use Rattle.base.specs.Total.{total}
 use Rattle.accuracy.specs.Terms.{temperature_term, density_factor, times_factor, terms, sum_of_squares}
 use Rattle.accuracy.specs.Inner.{most_sum}
 use Rattle.accuracy.proofs.Bounds.{density_term_most, density_temperature_term_most, sum_most}
-use borrow.Author.Rules.{rules}
 use Rattle.terms.proofs.sum_of_squares.Goals as goal
 use Rattle.terms.proofs.sum_of_squares.Goals.{After-struct_known-3-1, Start}
 

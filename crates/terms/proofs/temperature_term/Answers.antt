@@ -1,9 +1,7 @@
 -- `terms::temperature_term` meets its contract: B times an error is at most 15,420,540.
-use native.Mathlib.Nat.{mul-le-mul}
 use native.Mathlib.Omega.{arith}
 use Rattle.accuracy.specs.Terms.{temperature_term}
 use Rattle.accuracy.proofs.Bounds.{temperature_term_most}
-use borrow.Author.Rules.{rules}
 use Rattle.terms.proofs.temperature_term.Goals as goal
 
 pub returns : goal.returns

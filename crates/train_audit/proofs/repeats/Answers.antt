@@ -1,12 +1,8 @@
 -- `train_audit::repeats` meets its contract: of the numbers that were passed none stands twice.
-use Prim.Native.Nat.{◌-◌, ◌≤◌}
-use mathlib.Core.Path.{◌≡◌, refl, sym, ◌∙◌}
-use mathlib.Core.Bool.{false}
+use mathlib.Core.Path.{◌≡◌, sym, ◌∙◌}
 use native.Mathlib.Omega.{arith}
-use lib.ListN.{length, take}
-use borrow.Author.Rules.{rules}
+use lib.ListN.{length}
 use Rattle.base.specs.Limits.{most_cars}
-use Rattle.consist.specs.Train.{twice}
 use Rattle.consist.proofs.Places.{twice_hit, twice_miss}
 use Rattle.train_audit.proofs.repeats.Goals as goal
 

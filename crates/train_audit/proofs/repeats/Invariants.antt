@@ -1,13 +1,9 @@
 -- `train_audit::repeats` meets its contract: of the numbers that were passed none stands twice.
 use Prim.Native.Nat.{◌-◌, ◌≤◌}
-use mathlib.Core.Path.{◌≡◌, refl, sym, ◌∙◌}
+use mathlib.Core.Path.{◌≡◌}
 use mathlib.Core.Bool.{false}
-use native.Mathlib.Omega.{arith}
-use lib.ListN.{length, take}
-use borrow.Author.Rules.{rules}
-use Rattle.base.specs.Limits.{most_cars}
+use lib.ListN.{take}
 use Rattle.consist.specs.Train.{twice}
-use Rattle.consist.proofs.Places.{twice_hit, twice_miss}
 use Rattle.train_audit.proofs.repeats.Given as goal
 
 abbrev pub invariant-loop-i : goal.invariant-loop-i

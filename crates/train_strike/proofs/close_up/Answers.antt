@@ -1,12 +1,9 @@
 -- `train_strike::close_up` meets its contract: the places up to i are those of the closed list.
-use Prim.Native.Nat.{◌+◌, ◌-◌, ◌≤◌}
+use Prim.Native.Nat.{◌-◌}
 use mathlib.Core.Path.{◌≡◌}
-use mathlib.Core.List.{◌++◌}
 use native.Mathlib.Omega.{arith}
-use lib.ListN.{length, take, drop}
-use borrow.Author.Rules.{rules}
+use lib.ListN.{length}
 use Rattle.base.specs.Limits.{most_cars}
-use Rattle.consist.specs.Train.{closed}
 use Rattle.consist.proofs.Places.{closing, closing_next, closing_last}
 use Rattle.train_strike.proofs.close_up.Goals as goal
 

@@ -2,12 +2,9 @@
 use Prim.Native.Nat.{◌+◌, ◌-◌, ◌≤◌}
 use mathlib.Core.Path.{◌≡◌}
 use mathlib.Core.List.{◌++◌}
-use native.Mathlib.Omega.{arith}
-use lib.ListN.{length, take, drop}
-use borrow.Author.Rules.{rules}
+use lib.ListN.{take, drop}
 use Rattle.base.specs.Limits.{most_cars}
 use Rattle.consist.specs.Train.{closed}
-use Rattle.consist.proofs.Places.{closing, closing_next, closing_last}
 use Rattle.train_strike.proofs.close_up.Given as goal
 
 abbrev pub invariant-loop-i : goal.invariant-loop-i

@@ -1,15 +1,11 @@
 -- `train_strike::strike_on` meets its contract: 30, or the place of the number is taken out of each array.
-use Prim.Native.Nat.{◌≤◌, ◌<◌}
 use mathlib.Core.Path.{◌≡◌, ap, sym, ◌∙◌}
 use native.Mathlib.Omega.{arith}
 use lib.Dec.{ltb}
-use lib.ListN.{length, take}
 use lib.Seq.{length-take-le}
-use borrow.Author.Rules.{rules}
 use borrow.Author.Tests.{lt-ltb, le-ltb}
-use Rattle.base.specs.Limits.{most_cars}
 use Rattle.base.specs.Numbers.{member}
-use Rattle.consist.specs.Train.{Train, held_by, position, without_at}
+use Rattle.consist.specs.Train.{held_by, position, without_at}
 use Rattle.consist.specs.Lent.{lent_train}
 use Rattle.consist.proofs.Places.{member_position}
 use Rattle.consist.proofs.Striking.{not_held, is_held, taken_out}

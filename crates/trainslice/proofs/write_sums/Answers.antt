@@ -1,15 +1,14 @@
 -- `trainslice::write_sums` meets its contract: the totals of all cars, and each turn writes a grade's.
-use Prim.Native.Nat.{ℕ, ◌-◌, ◌≤◌}
-use mathlib.Core.Path.{◌≡◌, refl, ap, sym, ◌∙◌}
+use Prim.Native.Nat.{ℕ}
+use mathlib.Core.Path.{◌≡◌, ap, ◌∙◌}
 use mathlib.Core.List.{List}
 use native.Mathlib.Omega.{arith}
-use lib.ListN.{length, take}
+use lib.ListN.{length}
 use borrow.Author.Rules.{rules}
 use Rattle.base.specs.Limits.{grade_count}
 use Rattle.base.specs.Buffer.{put}
-use Rattle.base.proofs.Buffer.{put_nil}
 use Rattle.base.proofs.Lists.{length_under}
-use Rattle.trainslice.specs.Layout.{totals_places, sums_places, grades_numbers}
+use Rattle.trainslice.specs.Layout.{totals_places, grades_numbers}
 use Rattle.trainslice.proofs.Slice.{grade_written, grades_written, sums_written}
 use Rattle.trainslice.proofs.write_sums.Goals as goal
 use Rattle.trainslice.proofs.write_sums.Goals.{After-write_totals, Start}

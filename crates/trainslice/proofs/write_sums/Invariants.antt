@@ -1,16 +1,10 @@
 -- `trainslice::write_sums` meets its contract: the totals of all cars, and each turn writes a grade's.
-use Prim.Native.Nat.{ℕ, ◌-◌, ◌≤◌}
-use mathlib.Core.Path.{◌≡◌, refl, ap, sym, ◌∙◌}
-use mathlib.Core.List.{List}
-use native.Mathlib.Omega.{arith}
+use Prim.Native.Nat.{◌-◌, ◌≤◌}
+use mathlib.Core.Path.{◌≡◌}
 use lib.ListN.{length, take}
-use borrow.Author.Rules.{rules}
 use Rattle.base.specs.Limits.{grade_count}
 use Rattle.base.specs.Buffer.{put}
-use Rattle.base.proofs.Buffer.{put_nil}
-use Rattle.base.proofs.Lists.{length_under}
 use Rattle.trainslice.specs.Layout.{totals_places, sums_places, grades_numbers}
-use Rattle.trainslice.proofs.Slice.{grade_written, grades_written, sums_written}
 use Rattle.trainslice.proofs.write_sums.Given as goal
 
 abbrev pub invariant-loop-i : goal.invariant-loop-i

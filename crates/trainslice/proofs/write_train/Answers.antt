@@ -1,16 +1,15 @@
 -- `trainslice::write_train` meets its contract: its sums, how many cars it holds, and the four rows.
 use Prim.Native.Nat.{ℕ}
-use mathlib.Core.Path.{◌≡◌, ap, sym, ◌∙◌}
+use mathlib.Core.Path.{◌≡◌, ap, ◌∙◌}
 use mathlib.Core.List.{List}
-use native.Mathlib.Omega.{arith}
-use lib.ListN.{length, set, length-set}
+use lib.ListN.{length, set}
 use borrow.Author.Rules.{rules}
 use Rattle.base.specs.Limits.{grade_count}
 use Rattle.base.specs.Buffer.{put}
 use Rattle.base.proofs.Lists.{length_under}
 use Rattle.consist.specs.Inner.{Sixty}
 use Rattle.train.specs.Told.{train_told}
-use Rattle.trainslice.specs.Layout.{sums_places, train_places, train_of}
+use Rattle.trainslice.specs.Layout.{sums_places, train_of}
 use Rattle.trainslice.proofs.Slice.{train_written, train_again}
 use Rattle.trainslice.proofs.write_train.Goals as goal
 use Rattle.trainslice.proofs.write_train.Goals.{Start}

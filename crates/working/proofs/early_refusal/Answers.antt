@@ -1,6 +1,5 @@
 -- `working::early_refusal` meets its contract: 12, or what 13 says.
 use mathlib.Core.Path.{sym, ◌∙◌}
-use borrow.Author.Rules.{rules}
 use borrow.Author.Tests.{not-true, not-false}
 use Rattle.table.specs.Table.{unknown}
 use Rattle.table.specs.Layout.{tables_of}

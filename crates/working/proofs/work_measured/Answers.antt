@@ -1,8 +1,5 @@
 -- `working::work_measured` meets its contract: the volume's 16 and 17, or the answer from the volume on.
 use mathlib.Core.Path.{◌∙◌}
-use mathlib.Core.List.{List}
-use borrow.Author.Rules.{rules}
-use Rattle.table.specs.Table.{Table}
 use Rattle.table.specs.Layout.{tables_of}
 use Rattle.gauging.proofs.Answers.{mean_most, volume_most}
 use Rattle.car.proofs.Accepted.{grade_known}

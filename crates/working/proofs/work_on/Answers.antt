@@ -1,13 +1,10 @@
 -- `working::work_on` meets its contract: 12 and 13, the readings' refusals, or the answer from what is measured.
 use mathlib.Core.Path.{◌≡◌, ◌∙◌}
-use mathlib.Core.List.{List}
-use borrow.Author.Rules.{rules}
 use Rattle.base.specs.Answer.{first_number}
-use Rattle.table.specs.Table.{Table}
 use Rattle.table.specs.Layout.{tables_of}
 use Rattle.car.specs.Measured.{early_tests}
 use Rattle.car.specs.Car.{measured, dipped}
-use Rattle.car.proofs.Answers.{own_early, early_passed, own_readings, own_late}
+use Rattle.car.proofs.Answers.{own_early, own_readings, own_late}
 use Rattle.working.proofs.work_on.Goals as goal
 use Rattle.working.proofs.work_on.Goals.{After-early_refusal-early}
 

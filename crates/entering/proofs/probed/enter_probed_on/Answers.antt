@@ -1,19 +1,13 @@
 -- `entering::enter_probed_on` meets its contract: the train's refusals first, then the answer to the probe's car.
-use Prim.Native.Nat.{◌<◌}
 use mathlib.Core.Path.{◌≡◌, ap, ◌∙◌}
-use mathlib.Core.List.{List}
-use borrow.Author.Rules.{rules}
-use Rattle.base.specs.Limits.{most_cars}
 use Rattle.base.specs.Answer.{first_number}
-use Rattle.table.specs.Table.{Table}
 use Rattle.table.specs.Layout.{tables_of}
 use Rattle.car.specs.declared.ProbeCar.{ProbeCar}
 use Rattle.car.specs.Car.{probed, car_told}
 use Rattle.car.specs.Inner.{Stands}
-use Rattle.consist.specs.Train.{Train}
 use Rattle.consist.specs.Inner.{place_tests}
 use Rattle.consist.specs.Lent.{lent_train}
-use Rattle.consist.proofs.Entering.{place_away, place_left, taken_in, graded}
+use Rattle.consist.proofs.Entering.{place_away, taken_in, graded}
 use Rattle.entering.proofs.probed.enter_probed_on.Goals as goal
 use Rattle.entering.proofs.probed.enter_probed_on.Goals.{After-place_refusal-refusal}
 

@@ -1,7 +1,4 @@
 -- `export_probe::prepare` meets its contract: the refusal of the set, or the car by its tenths.
-use mathlib.Core.Path.{◌≡◌}
-use borrow.Author.Rules.{rules}
-use Rattle.probe_spec.specs.declared.ProbeSet.{ProbeSet}
 use Rattle.probe_spec.proofs.Answers.{set_refused, set_shown}
 use Rattle.marshalling.specs.Layout.{set_of}
 use Rattle.export_probe.proofs.cars.prepare.Goals as goal

@@ -6,11 +6,9 @@ use mathlib.Core.List.{List}
 use native.Mathlib.Omega.{arith}
 use lib.ListN.{get_or}
 use borrow.Author.Tests.{eq-eqb, ne_eqb}
-use borrow.Author.Rules.{rules}
 use Rattle.base.specs.Answer.{refuses, first}
 use Rattle.probe_spec.specs.Tenths.{set_tests}
 use Rattle.table.specs.Table.{Table}
-use Rattle.car.specs.declared.ProbeCar.{ProbeCar}
 use Rattle.car.specs.Car.{probe_car_of, probed}
 use Rattle.car.specs.Inner.{Stands}
 use Rattle.consist.specs.Train.{Train, enter_answer, enter_train}

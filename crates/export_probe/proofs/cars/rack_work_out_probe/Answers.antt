@@ -1,18 +1,13 @@
 -- `export_probe::rack_work_out_probe` meets its contract: 31 and 32 of the set, or the answer on the tables that were lent.
-use mathlib.Core.Path.{◌≡◌, sym, ap, subst, ◌∙◌}
-use mathlib.Core.List.{List}
-use borrow.Author.Rules.{rules}
+use mathlib.Core.Path.{◌≡◌, sym, subst, ◌∙◌}
 use Rattle.base.specs.Answer.{refuses, first, Answer}
 use Rattle.probe_spec.specs.Tenths.{set_tests}
-use Rattle.table.specs.Table.{Table}
-use Rattle.car.specs.declared.ProbeCar.{ProbeCar}
-use Rattle.car.specs.Car.{probe_car_of, probed, alone_answer}
-use Rattle.car.specs.Inner.{Stands}
+use Rattle.car.specs.Car.{probe_car_of, probed}
 use Rattle.car.proofs.Answers.{alone_before}
 use Rattle.marshalling.specs.Handed.{figures_left, sized}
 use Rattle.marshalling.specs.Layout.{tables_lent, set_of, probe_fields, car_sized}
-use Rattle.marshalling.proofs.Handed.{handed, handed_as, right_sized, wrong_sized}
-use Rattle.marshalling.proofs.Lengths.{CarRight, car_right, tables_copied}
+use Rattle.marshalling.proofs.Handed.{handed, right_sized}
+use Rattle.marshalling.proofs.Lengths.{CarRight, car_right}
 use Rattle.export_probe.specs.declared.cars.Prepared.{Prepared}
 use Rattle.export_probe.specs.Prepared.{PreparedAs}
 use Rattle.export_probe.proofs.cars.rack_work_out_probe.Goals as goal

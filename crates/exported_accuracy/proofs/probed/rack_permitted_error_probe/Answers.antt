@@ -1,6 +1,5 @@
 -- `exported_accuracy::rack_permitted_error_probe` meets its contract: the tables, the car and the errors that were copied are those that were lent.
 use mathlib.Core.Path.{sym, ap, ◌∙◌}
-use borrow.Author.Rules.{rules}
 use Rattle.base.specs.Answer.{refusal}
 use Rattle.base.proofs.Choice.{never}
 use Rattle.car.specs.Car.{probed}

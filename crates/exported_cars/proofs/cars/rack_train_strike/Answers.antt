@@ -3,14 +3,13 @@ use Prim.Native.Nat.{ℕ, ◌<◌}
 use mathlib.Core.Path.{◌≡◌, sym, ap, ◌∙◌}
 use native.Mathlib.Omega.{arith}
 use lib.ListN.{get_or}
-use borrow.Author.Tests.{eq-eqb, ne_eqb}
-use borrow.Author.Rules.{rules}
+use borrow.Author.Tests.{eq-eqb}
 use Rattle.consist.specs.Train.{Train, strike_answer, strike_train}
 use Rattle.train_strike.specs.Told.{strike_told}
 use Rattle.marshalling.specs.Handed.{length_is, number_handed, sized}
-use Rattle.marshalling.proofs.Handed.{right_sized, wrong_sized}
+use Rattle.marshalling.proofs.Handed.{right_sized}
 use Rattle.trainslice.specs.Layout.{half, train_places, train_of, train_numbers, TrainHanded}
-use Rattle.trainslice.proofs.Slice.{train_handed, train_kept}
+use Rattle.trainslice.proofs.Slice.{train_handed}
 use Rattle.exported_cars.proofs.cars.rack_train_strike.Goals as goal
 use Rattle.exported_cars.proofs.cars.rack_train_strike.Goals.{After-slice_known-2-1, After-strike-step, Else-train-ne-TRAIN_PLACES, Start}
 

@@ -1,15 +1,7 @@
 -- `exported_cars::rack_work_out` meets its contract: the tables and the car that were copied are those that were lent.
-use mathlib.Core.Path.{sym, ap, ◌∙◌}
-use mathlib.Core.List.{List}
-use borrow.Author.Rules.{rules}
+use mathlib.Core.Path.{sym, ◌∙◌}
 use Rattle.reading.specs.Letter.{most_fields}
-use Rattle.table.specs.Table.{Table}
-use Rattle.table.specs.Layout.{tables_of}
-use Rattle.car.specs.declared.Car.{Car}
-use Rattle.car.specs.Car.{car_of, dipped, alone_answer}
-use Rattle.marshalling.specs.Handed.{figures_left}
-use Rattle.marshalling.proofs.Handed.{handed, handed_as, right_sized, wrong_sized}
-use Rattle.marshalling.proofs.Lengths.{CarRight, car_right, tables_copied}
+use Rattle.marshalling.proofs.Lengths.{CarRight, car_right}
 use Rattle.exported_cars.proofs.cars.rack_work_out.Goals as goal
 use Rattle.exported_cars.proofs.cars.rack_work_out.Goals.{Then-car_fits}
 

@@ -1,14 +1,6 @@
 -- `exported_cars::rack_check_tables` meets its contract: the tables that were copied are those that were lent.
-use mathlib.Core.Path.{sym, ap, ◌∙◌}
-use mathlib.Core.List.{[]}
-use borrow.Author.Rules.{rules}
-use Rattle.base.specs.Answer.{first}
-use Rattle.table.specs.Table.{tables_tests}
-use Rattle.table.specs.Layout.{tables_of}
-use Rattle.marshalling.specs.Handed.{number_handed}
-use Rattle.exported_cars.specs.Lengths.{tables_answer}
-use Rattle.marshalling.proofs.Handed.{number_answered, right_sized, wrong_sized}
-use Rattle.marshalling.proofs.Lengths.{TablesRight, tables_right, tables_copied}
+use mathlib.Core.Path.{sym, ◌∙◌}
+use Rattle.marshalling.proofs.Lengths.{TablesRight, tables_right}
 use Rattle.exported_cars.proofs.tables.rack_check_tables.Goals as goal
 use Rattle.exported_cars.proofs.tables.rack_check_tables.Goals.{Then-tables_fit}
 

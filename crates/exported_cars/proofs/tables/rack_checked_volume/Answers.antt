@@ -1,14 +1,6 @@
 -- `exported_cars::rack_checked_volume` meets its contract: the tables that were copied are those that were lent.
-use mathlib.Core.Path.{◌≡◌, sym, ap, ◌∙◌}
-use mathlib.Core.List.{List}
-use borrow.Author.Rules.{rules}
-use Rattle.base.specs.Answer.{Answer}
-use Rattle.table.specs.Table.{Table}
-use Rattle.gauging.specs.Capacity.{volume_told, volume_answer}
-use Rattle.marshalling.specs.Handed.{figure_left, sized}
-use Rattle.marshalling.specs.Layout.{tables_lent, tables_sized}
-use Rattle.marshalling.proofs.Handed.{handed, right_sized, wrong_sized}
-use Rattle.marshalling.proofs.Lengths.{TablesRight, tables_right, tables_copied}
+use mathlib.Core.Path.{sym, ◌∙◌}
+use Rattle.marshalling.proofs.Lengths.{TablesRight, tables_right}
 use Rattle.exported_cars.proofs.tables.rack_checked_volume.Goals as goal
 use Rattle.exported_cars.proofs.tables.rack_checked_volume.Goals.{Then-tables_fit}
 

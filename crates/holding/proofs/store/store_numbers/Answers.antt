@@ -1,14 +1,11 @@
 -- `holding::store::store_numbers` meets its contract: the first j numbers are copied.
-use Prim.Native.Nat.{ℕ, ◌+◌, ◌-◌, ◌≤◌}
-use mathlib.Core.Path.{◌≡◌, ap, sym, ◌∙◌}
+use Prim.Native.Nat.{ℕ, ◌+◌}
+use mathlib.Core.Path.{ap, sym, ◌∙◌}
 use mathlib.Core.List.{List}
 use native.Mathlib.Numerals.{add-one}
 use native.Mathlib.Omega.{arith}
-use lib.ListN.{length, set, get_or}
-use lib.Seq.{paste, paste-zero, paste-suc}
-use Rattle.reading.specs.Letter.{most_fields}
-use Rattle.holding.specs.Layout.{history_numbers}
-use Rattle.holding.proofs.Arrays.{copied}
+use lib.ListN.{set, get_or}
+use lib.Seq.{paste, paste-suc}
 use borrow.Author.Rules.{rules}
 use Rattle.holding.proofs.store.store_numbers.Goals as goal
 

@@ -1,15 +1,10 @@
 -- `holding::store::store_numbers` meets its contract: the first j numbers are copied.
-use Prim.Native.Nat.{ℕ, ◌+◌, ◌-◌, ◌≤◌}
-use mathlib.Core.Path.{◌≡◌, ap, sym, ◌∙◌}
-use mathlib.Core.List.{List}
-use native.Mathlib.Numerals.{add-one}
-use native.Mathlib.Omega.{arith}
-use lib.ListN.{length, set, get_or}
-use lib.Seq.{paste, paste-zero, paste-suc}
+use Prim.Native.Nat.{◌-◌, ◌≤◌}
+use mathlib.Core.Path.{◌≡◌}
+use lib.ListN.{length}
+use lib.Seq.{paste}
 use Rattle.reading.specs.Letter.{most_fields}
 use Rattle.holding.specs.Layout.{history_numbers}
-use Rattle.holding.proofs.Arrays.{copied}
-use borrow.Author.Rules.{rules}
 use Rattle.holding.proofs.store.store_numbers.Given as goal
 
 abbrev pub invariant-loop-j : goal.invariant-loop-j

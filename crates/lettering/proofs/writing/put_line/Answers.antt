@@ -1,10 +1,9 @@
 -- `lettering::writing::put_line` meets its contract: the buffer holds the letter and the fields passed.
-use Prim.Native.Nat.{◌+◌, ◌-◌, ◌*◌, ◌≤◌}
+use Prim.Native.Nat.{◌+◌}
 use mathlib.Core.Path.{◌≡◌, refl, sym, ◌∙◌}
-use lib.ListN.{length, take, length-set}
+use lib.ListN.{length, length-set}
 use native.Mathlib.Omega.{arith}
 use borrow.Author.Rules.{rules}
-use Rattle.base.specs.Buffer.{put}
 use Rattle.base.proofs.Buffer.{put_nil}
 use Rattle.line.specs.Writing.{fields_of}
 use Rattle.line.proofs.Bytes.{small_at, write_more, write_end}

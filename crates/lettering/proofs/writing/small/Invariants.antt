@@ -1,10 +1,8 @@
 -- `lettering::writing::small` meets its contract: the numbers passed are small.
-use borrow.Author.Rules.{rules}
 use Prim.Native.Nat.{◌-◌, ◌≤◌}
-use mathlib.Core.Path.{◌≡◌, sym}
+use mathlib.Core.Path.{◌≡◌}
 use mathlib.Core.Bool.{true}
 use Rattle.line.specs.Writing.{small_to}
-use Rattle.line.proofs.Bytes.{small_more, large_stays, small_done}
 use Rattle.lettering.proofs.writing.small.Given as goal
 
 abbrev pub invariant-loop-j : goal.invariant-loop-j

@@ -1,7 +1,6 @@
 -- `marshalling::car_fits` meets its contract: each return follows from the tests before it.
 use Rattle.base.proofs.Tests.{tests}
 use Rattle.marshalling.specs.Layout.{car_sized}
-use borrow.Author.Rules.{rules}
 use Rattle.marshalling.proofs.cars.car_fits.Goals as goal
 
 pub returns-then-car-fields : goal.returns-then-car-fields

@@ -5,8 +5,7 @@ use mathlib.Core.List.{List}
 use lib.ListN.{length}
 use Rattle.base.specs.Buffer.{put}
 use Rattle.merge_spec.specs.Inner.{Merged, reply_to, written_for}
-use Rattle.merge.proofs.Whole.{Both, Tested, Ordered, held_at, first_few, second_few, clashing, too_many, whole, text_is, ready}
-use borrow.Author.Rules.{rules}
+use Rattle.merge.proofs.Whole.{Both, Tested, Ordered, first_few, second_few, too_many, whole, text_is, ready}
 use Rattle.merge.proofs.read.merge_read.Goals as goal
 use Rattle.merge.proofs.read.merge_read.Goals.{After-conflict-number, After-order_cars-cars, Start}
 

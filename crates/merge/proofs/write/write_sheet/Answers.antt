@@ -11,7 +11,6 @@ use Rattle.merge_write.specs.Inner.{car_lines, tables_text}
 use lib.ListN.{take}
 use Rattle.merge.proofs.Fitting.{end_room, parts-length, parts_at, parts_laid}
 use native.Mathlib.Omega.{arith}
-use borrow.Author.Rules.{rules}
 use Rattle.merge.proofs.write.write_sheet.Goals as goal
 
 pub append_line-length-requires : goal.append_line-length-requires

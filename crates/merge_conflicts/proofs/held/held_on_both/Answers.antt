@@ -1,11 +1,11 @@
 -- `merge_conflicts::held_on_both` meets its contract: the numbers not yet passed tell of all.
-use Prim.Native.Nat.{ℕ, ◌+◌, ◌-◌}
+use Prim.Native.Nat.{ℕ, ◌+◌}
 use mathlib.Core.Path.{◌≡◌, ap, sym, ◌∙◌}
 use mathlib.Core.Bool.{Bool, ◌||◌}
 use mathlib.Core.List.{List}
 use lib.ListN.{length, take}
 use Rattle.base.specs.Numbers.{any, member}
-use Rattle.merge_order.proofs.Rest.{rest, rest_all, rest_next, rest_none}
+use Rattle.merge_order.proofs.Rest.{rest, rest_next}
 use borrow.Author.Rules.{rules}
 use native.Mathlib.Omega.{arith}
 use Rattle.merge_conflicts.proofs.held.held_on_both.Goals as goal

@@ -7,8 +7,7 @@ use Rattle.table.specs.Table.{Table}
 use Rattle.table.specs.Layout.{tables_from, tables_of}
 use Rattle.table.proofs.Arrays.{good_table}
 use Rattle.merge_spec.specs.Merge.{rows_differ}
-use Rattle.merge_conflicts.proofs.Comparing.{differ_first, differ_step, differ_last}
-use borrow.Author.Rules.{rules}
+use Rattle.merge_conflicts.proofs.Comparing.{differ_step}
 use native.Mathlib.Omega.{arith}
 use Rattle.merge_conflicts.proofs.rows.rows_differ.Goals as goal
 use Rattle.merge_conflicts.proofs.rows.rows_differ.Goals.{After-table_differs, Start}

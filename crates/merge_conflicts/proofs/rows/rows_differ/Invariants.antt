@@ -1,15 +1,8 @@
 -- `merge_conflicts::rows_differ` meets its contract: the tables not yet passed tell of all.
-use Prim.Native.Nat.{ℕ, ◌+◌, ◌-◌}
-use mathlib.Core.Path.{◌≡◌, ap, sym, ◌∙◌}
-use mathlib.Core.Bool.{Bool, ◌||◌}
-use mathlib.Core.List.{List}
-use Rattle.table.specs.Table.{Table}
+use Prim.Native.Nat.{◌-◌}
+use mathlib.Core.Path.{◌≡◌}
 use Rattle.table.specs.Layout.{tables_from, tables_of}
-use Rattle.table.proofs.Arrays.{good_table}
 use Rattle.merge_spec.specs.Merge.{rows_differ}
-use Rattle.merge_conflicts.proofs.Comparing.{differ_first, differ_step, differ_last}
-use borrow.Author.Rules.{rules}
-use native.Mathlib.Omega.{arith}
 use Rattle.merge_conflicts.proofs.rows.rows_differ.Given as goal
 
 abbrev pub invariant-loop-k : goal.invariant-loop-k

@@ -1,10 +1,6 @@
 -- `merge_conflicts::same_rows` meets its contract: what is left to compare tells of all.
-use Prim.Native.Nat.{◌-◌}
-use mathlib.Core.Path.{◌≡◌, sym, ◌∙◌}
-use Rattle.table.specs.Layout.{rows_from}
-use Rattle.merge_spec.specs.Merge.{same_rows}
-use Rattle.merge_conflicts.proofs.Comparing.{left, right, same_first, other_level, other_capacity, same_next, same_last}
-use borrow.Author.Rules.{rules}
+use mathlib.Core.Path.{◌∙◌}
+use Rattle.merge_conflicts.proofs.Comparing.{same_next}
 use native.Mathlib.Omega.{arith}
 use Rattle.merge_conflicts.proofs.rows.same_rows.Goals as goal
 

@@ -1,5 +1,5 @@
 -- `merge_conflicts::table_differs` meets its contract: the type is looked for among the tables not yet passed.
-use Prim.Native.Nat.{ℕ, ◌-◌, ◌*◌}
+use Prim.Native.Nat.{ℕ, ◌*◌}
 use mathlib.Core.Path.{ap, sym, ◌∙◌}
 use mathlib.Core.List.{List}
 use Rattle.base.specs.Limits.{most_rows}
@@ -7,8 +7,7 @@ use Rattle.table.specs.Table.{Row}
 use Rattle.table.specs.Layout.{rows_from}
 use Rattle.table.proofs.Arrays.{good_table, length_rows}
 use Rattle.merge_spec.specs.Merge.{same_rows}
-use Rattle.merge_conflicts.proofs.Comparing.{Sought, sought_first, sought_next, by_rows, by_count, sought_none}
-use borrow.Author.Rules.{rules}
+use Rattle.merge_conflicts.proofs.Comparing.{sought_next, by_rows, by_count}
 use native.Mathlib.Omega.{arith}
 use Rattle.merge_conflicts.proofs.rows.table_differs.Goals as goal
 

@@ -1,11 +1,9 @@
 -- `merge_lines::copy::copy_bytes` meets its contract: each turn copies a byte.
-use Prim.Native.Nat.{◌+◌, ◌-◌, ◌≤◌}
-use mathlib.Core.Path.{◌≡◌, refl, ◌∙◌}
+use Prim.Native.Nat.{◌+◌}
+use mathlib.Core.Path.{◌∙◌}
 use native.Mathlib.Omega.{arith}
-use lib.ListN.{length, get_or, take, drop, length-set}
-use borrow.Author.Rules.{rules}
-use Rattle.base.specs.Buffer.{put}
-use Rattle.merge_lines.proofs.Bytes.{copied_none, copied_next}
+use lib.ListN.{get_or, length-set}
+use Rattle.merge_lines.proofs.Bytes.{copied_next}
 use Rattle.merge_lines.proofs.copy.copy_bytes.Goals as goal
 
 pub loop-i-preserved : goal.loop-i-preserved

@@ -1,11 +1,8 @@
 -- `merge_lines::copy::copy_bytes` meets its contract: each turn copies a byte.
-use Prim.Native.Nat.{◌+◌, ◌-◌, ◌≤◌}
-use mathlib.Core.Path.{◌≡◌, refl, ◌∙◌}
-use native.Mathlib.Omega.{arith}
-use lib.ListN.{length, get_or, take, drop, length-set}
-use borrow.Author.Rules.{rules}
+use Prim.Native.Nat.{◌-◌, ◌≤◌}
+use mathlib.Core.Path.{◌≡◌}
+use lib.ListN.{length, take, drop}
 use Rattle.base.specs.Buffer.{put}
-use Rattle.merge_lines.proofs.Bytes.{copied_none, copied_next}
 use Rattle.merge_lines.proofs.copy.copy_bytes.Given as goal
 
 abbrev pub invariant-loop-i : goal.invariant-loop-i

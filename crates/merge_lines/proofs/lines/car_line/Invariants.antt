@@ -1,10 +1,7 @@
 -- `merge_lines::car_line` meets its contract: each turn copies one number.
 use Prim.Native.Nat.{◌-◌}
-use mathlib.Core.Path.{refl}
 use Rattle.reading.specs.Letter.{most_fields}
-use Rattle.merge_lines.proofs.Copying.{Copied, copied_more, copied_all}
-use borrow.Author.Rules.{rules}
-use native.Mathlib.Omega.{arith}
+use Rattle.merge_lines.proofs.Copying.{Copied}
 use Rattle.merge_lines.proofs.lines.car_line.Given as goal
 
 abbrev pub invariant-loop-j : goal.invariant-loop-j

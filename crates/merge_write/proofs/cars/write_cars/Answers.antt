@@ -1,7 +1,5 @@
 -- `merge_write::write_cars` meets its contract: each turn writes a car's line.
-use Prim.Native.Nat.{◌-◌}
-use Rattle.merge_write.proofs.CarTurns.{CarsLaid, cars_none, c_place, c_fourteen, c_room, c_laid, cars_done}
-use borrow.Author.Rules.{rules}
+use Rattle.merge_write.proofs.CarTurns.{c_place, c_fourteen, c_room, c_laid, cars_done}
 use native.Mathlib.Omega.{arith}
 use Rattle.merge_write.proofs.cars.write_cars.Goals as goal
 

@@ -1,10 +1,7 @@
 -- `merge_write::tables::table_start` meets its contract: each turn passes a table.
-use Prim.Native.Nat.{ℕ, ◌+◌, ◌-◌, ◌*◌, ◌≤◌}
-use mathlib.Core.Path.{◌≡◌, refl, ap, sym, ◌∙◌}
-use native.Mathlib.Numerals.{add-one}
-use native.Mathlib.Omega.{arith}
-use borrow.Author.Rules.{rules}
-use Rattle.merge_write.specs.Inner.{table_bytes, start_of}
+use Prim.Native.Nat.{◌-◌, ◌*◌, ◌≤◌}
+use mathlib.Core.Path.{◌≡◌}
+use Rattle.merge_write.specs.Inner.{start_of}
 use Rattle.merge_write.proofs.tables.table_start.Given as goal
 
 -- no table has more than 8,020 bytes

@@ -1,7 +1,5 @@
 -- `merge_write::write_tables` meets its contract: each turn copies a table.
-use Prim.Native.Nat.{◌-◌}
-use Rattle.merge_write.proofs.TableTurns.{TablesLaid, tables_none, table_ready, table_laid, tables_done}
-use borrow.Author.Rules.{rules}
+use Rattle.merge_write.proofs.TableTurns.{table_ready, table_laid}
 use Rattle.merge_write.proofs.tables.write_tables.Goals as goal
 
 pub copy_by-place-requires : goal.copy_by-place-requires

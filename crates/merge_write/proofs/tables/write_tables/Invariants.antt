@@ -1,7 +1,6 @@
 -- `merge_write::write_tables` meets its contract: each turn copies a table.
 use Prim.Native.Nat.{◌-◌}
-use Rattle.merge_write.proofs.TableTurns.{TablesLaid, tables_none, table_ready, table_laid, tables_done}
-use borrow.Author.Rules.{rules}
+use Rattle.merge_write.proofs.TableTurns.{TablesLaid}
 use Rattle.merge_write.proofs.tables.write_tables.Given as goal
 
 abbrev pub invariant-loop-i : goal.invariant-loop-i

@@ -1,12 +1,9 @@
 -- `permitting::permitted_error_probe` meets its contract: 31 and 32 of the set, the car's answer, then the limit beside its figures.
-use mathlib.Core.Path.{◌≡◌, refl}
-use mathlib.Core.List.{List}
-use borrow.Author.Rules.{rules}
+use mathlib.Core.Path.{refl}
 use Rattle.probe_spec.proofs.Answers.{set_refused, set_shown}
-use Rattle.table.specs.Table.{Table}
 use Rattle.table.specs.Layout.{tables_of}
 use Rattle.car.specs.declared.CarAnswer.TheVariants.{Refused}
-use Rattle.car.specs.Car.{probed, alone_answer, car_told}
+use Rattle.car.specs.Car.{probed}
 use Rattle.car.specs.Inner.{Stands}
 use Rattle.car.proofs.Answers.{alone_before}
 use Rattle.accuracy.specs.Permitted.{permitted_told}

@@ -1,7 +1,5 @@
 -- `sheet::rows::next_row` meets its contract: a row that `row_at` finds and `later_row_bad` lets pass.
 use mathlib.Core.Path.{sym, ◌∙◌}
-use mathlib.Core.Bool.{true≢false}
-use borrow.Author.Rules.{rules}
 use Rattle.reading.proofs.Row.{row_known}
 use Rattle.sheet.proofs.rows.next_row.Goals as goal
 

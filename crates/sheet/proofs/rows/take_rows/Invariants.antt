@@ -1,12 +1,8 @@
 -- `sheet::rows::take_rows` meets its contract: from the start to the place reached the reading only went on.
-use Prim.Native.Nat.{◌-◌, ◌*◌}
-use mathlib.Core.Path.{◌≡◌, refl}
-use native.Mathlib.Omega.{arith}
-use lib.ListN.{length}
-use Rattle.base.specs.Limits.{most_tables, most_rows}
-use Rattle.holding.specs.Inner.{Owing}
-use Rattle.sheet.proofs.Taken.{Taken, taken_none, taken_start, taken_more}
-use borrow.Author.Rules.{rules}
+use Prim.Native.Nat.{◌*◌}
+use mathlib.Core.Path.{◌≡◌}
+use Rattle.base.specs.Limits.{most_rows}
+use Rattle.sheet.proofs.Taken.{Taken}
 use Rattle.sheet.proofs.rows.take_rows.Given as goal
 
 abbrev pub invariant-loop-owed : goal.invariant-loop-owed

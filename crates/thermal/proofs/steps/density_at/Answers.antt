@@ -1,7 +1,5 @@
 -- `thermal::steps::density_at` meets its contract: the product of a density and E fits.
-use borrow.Author.Rules.{rules}
 use mathlib.Core.Path.{◌≡◌}
-use native.Mathlib.Nat.{mul-le-mul}
 use native.Mathlib.Omega.{arith}
 use Rattle.heating.specs.Steps
 use Rattle.heating.specs.Steps.{density_at}

@@ -1,5 +1,4 @@
 -- `thermal::steps::factor_at` meets its contract: B and X are within the bounds of the budget.
-use borrow.Author.Rules.{rules}
 use mathlib.Core.Path.{◌≡◌}
 use native.Mathlib.Omega.{arith}
 use Rattle.heating.specs.Steps

@@ -1,7 +1,5 @@
 -- `thermal::steps::next_term` meets its contract: a term is at most a sixteenth of the one before it, but for the rounding.
-use borrow.Author.Rules.{rules}
 use Prim.Native.Nat.{◌*◌}
-use native.Mathlib.Nat.{mul-le-mul}
 use native.Mathlib.Omega.{arith}
 use Rattle.heating.specs.Steps.{unity}
 use Rattle.heating.proofs.Bounds.{next_term_small}

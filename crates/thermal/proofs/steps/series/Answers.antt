@@ -1,5 +1,4 @@
 -- `thermal::steps::series` meets its contract: what `next_term` ensures of each term bounds the next one.
-use borrow.Author.Rules.{rules}
 use Rattle.heating.specs.Steps.{series, term}
 use Rattle.thermal.proofs.steps.series.Goals as goal
 

@@ -9,7 +9,7 @@ use Rattle.consist.specs.Book as book
 use Rattle.consist.specs.Demand3.{Continues}
 use Rattle.consist.specs.HandedInExamples.{StrikeOrder}
 use Rattle.consist.specs.declared.Tally.{Tally}
-use Rattle.consist.specs.Inner.{Sixty, SoundTrain}
+use Rattle.consist.specs.Inner.{Sixty}
 use Rattle.consist.specs.Lent.{lent_train}
 use Rattle.consist.proofs.Book.{continues}
 use Rattle.consist.proofs.AgainstExamples.{strike_order}

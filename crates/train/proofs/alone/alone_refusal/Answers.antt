@@ -1,10 +1,8 @@
 -- `train::alone_refusal` meets its contract: the refusal of the tables, then that of the number.
 use mathlib.Core.Path.{sym, ap, ◌∙◌}
-use mathlib.Core.List.{List}
-use borrow.Author.Rules.{rules}
 use Rattle.base.specs.Answer.{number_of}
 use Rattle.base.proofs.Answer.{passed, refused-append, accepted-append}
-use Rattle.table.specs.Table.{Table, tables_tests}
+use Rattle.table.specs.Table.{tables_tests}
 use Rattle.table.specs.Layout.{tables_of}
 use Rattle.table.proofs.Table.{tables_numbered}
 use Rattle.car.specs.Car.{number_tests}

@@ -1,8 +1,5 @@
 -- `train::work_alone` meets its contract: 7, 8 and 10, or the answer on tables that are not refused.
 use mathlib.Core.Path.{refl, ◌∙◌}
-use mathlib.Core.List.{List}
-use borrow.Author.Rules.{rules}
-use Rattle.table.specs.Table.{Table}
 use Rattle.table.specs.Layout.{tables_of}
 use Rattle.car.specs.Car.{dipped}
 use Rattle.car.proofs.Answers.{alone_tables, alone_away, alone_own}

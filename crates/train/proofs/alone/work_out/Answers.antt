@@ -1,7 +1,6 @@
 -- `train::work_out` meets its contract: distance and filling order hold of any answer that a car gets alone.
 use mathlib.Core.Path.{◌≡◌}
 use mathlib.Core.List.{List}
-use borrow.Author.Rules.{rules}
 use Rattle.base.specs.Answer.{Answer}
 use Rattle.table.specs.Table.{Table}
 use Rattle.table.specs.Layout.{tables_of}

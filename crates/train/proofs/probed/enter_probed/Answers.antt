@@ -1,13 +1,11 @@
 -- `train::enter_probed` meets its contract: 7, 8 and 9 first, then `enter_probed_on`.
 use mathlib.Core.Path.{◌≡◌, ◌∙◌}
-use mathlib.Core.List.{List}
 use borrow.Author.Rules.{rules}
 use Rattle.base.specs.Answer.{accepts}
-use Rattle.table.specs.Table.{Table, tables_verdict}
+use Rattle.table.specs.Table.{tables_verdict}
 use Rattle.table.specs.Layout.{tables_of}
 use Rattle.car.specs.Car.{probed}
 use Rattle.consist.specs.declared.Tally.{Tally}
-use Rattle.consist.specs.Train.{Train}
 use Rattle.consist.specs.Inner.{Sixty, SoundTrain}
 use Rattle.consist.proofs.Entering.{barred_away, barred_not}
 use Rattle.consist.proofs.Rows.{rows_sound, rows_entered}

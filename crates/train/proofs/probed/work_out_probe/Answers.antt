@@ -1,7 +1,6 @@
 -- `train::work_out_probe` meets its contract: 31 and 32 of the set, or the answer by its tenths.
 use mathlib.Core.Path.{◌≡◌}
 use mathlib.Core.List.{List}
-use borrow.Author.Rules.{rules}
 use Rattle.base.specs.Answer.{Answer, refusal}
 use Rattle.probe_spec.proofs.Answers.{set_refused, set_shown}
 use Rattle.table.specs.Table.{Table}

@@ -1,9 +1,8 @@
 -- `train::work_probed_alone` meets its contract: 7, 8 and 10, or the answer on tables that are not refused.
 use mathlib.Core.Path.{◌≡◌, ap, ◌∙◌}
-use mathlib.Core.List.{List, ◌++◌}
-use borrow.Author.Rules.{rules}
+use mathlib.Core.List.{◌++◌}
 use Rattle.base.specs.Answer.{first_number}
-use Rattle.table.specs.Table.{Table, tables_tests}
+use Rattle.table.specs.Table.{tables_tests}
 use Rattle.table.specs.Layout.{tables_of}
 use Rattle.car.specs.declared.ProbeCar.{ProbeCar}
 use Rattle.car.specs.Car.{number_tests, probed}

@@ -1,13 +1,12 @@
 -- `train::bar_refusal` meets its contract: the refusal of the tables, then 9.
 use mathlib.Core.Path.{◌≡◌, sym, ap, ◌∙◌}
-use mathlib.Core.List.{List, [], ◌∷◌}
-use borrow.Author.Rules.{rules}
-use Rattle.base.specs.Answer.{Test, refuse_if, accepts, first, number_of, first_number}
+use mathlib.Core.List.{[], ◌∷◌}
+use Rattle.base.specs.Answer.{refuse_if, accepts, first, number_of, first_number}
 use Rattle.base.proofs.Answer.{passed, refused-append, accepted-append}
-use Rattle.table.specs.Table.{Table, tables_tests}
+use Rattle.table.specs.Table.{tables_tests}
 use Rattle.table.specs.Layout.{tables_of}
 use Rattle.table.proofs.Table.{tables_numbered}
-use Rattle.consist.specs.Train.{Train, unsound}
+use Rattle.consist.specs.Train.{unsound}
 use Rattle.consist.specs.Inner.{bar_tests}
 use Rattle.consist.specs.Lent.{tallied_train}
 use Rattle.train.proofs.running.bar_refusal.Goals as goal

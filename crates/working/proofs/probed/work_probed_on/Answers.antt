@@ -1,10 +1,6 @@
 -- `working::work_probed_on` meets its contract: 12 and 13, or the answer from what is measured.
 use mathlib.Core.Path.{◌≡◌, refl, ap, ◌∙◌}
-use mathlib.Core.List.{List}
-use borrow.Author.Rules.{rules}
 use Rattle.base.specs.Answer.{first_number}
-use Rattle.base.proofs.Answer.{passed}
-use Rattle.table.specs.Table.{Table}
 use Rattle.table.specs.Layout.{tables_of}
 use Rattle.car.specs.declared.Measured.{Measured}
 use Rattle.car.specs.declared.ProbeCar.{ProbeCar}
