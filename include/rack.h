@@ -7,8 +7,7 @@
  *   0                 the operation's figures stand in the places that were lent for them;
  *   2 to 32           the refusal of this number (README.md), the first that applies;
  *   RACK_BAD_LENGTH   a slice has not the length that is asked for;
- *   RACK_BAD_LETTER   a byte is no letter of a line (rack_write_line only);
- *   RACK_BAD_EDITION  a number is no edition's (the functions that take a car), where every length is right.
+ *   RACK_BAD_LETTER   a byte is no letter of a line (rack_write_line only).
  * Beside any number but 0 nothing is written, but for what rack_train_enter and rack_train_enter_probe say
  * of their train.
  *
@@ -48,22 +47,17 @@ extern "C" {
 #endif
 
 /* Bytes of the longest sheet that is read; a longer one is refused by 2. */
-#define RACK_SHEET_BYTES 48122
+#define RACK_SHEET_BYTES 48111
 
 /* Bytes that an answer buffer must have; a shorter one is refused by 1. */
 #define RACK_ANSWER_BYTES 8101
 
 /* Bytes that a buffer for a merged sheet must have; a shorter one is refused by 1. */
-#define RACK_MERGE_BYTES 39782
+#define RACK_MERGE_BYTES 39771
 
 /* No refusals: what is lent cannot be asked about. */
 #define RACK_BAD_LENGTH 1000
 #define RACK_BAD_LETTER 1001
-#define RACK_BAD_EDITION 1002
-
-/* The edition in which a car is reckoned: at 15 C or at 20 C. There is no third. */
-#define RACK_EDITION_AT_15 1
-#define RACK_EDITION_AT_20 2
 
 /* Lengths of slices: the numbers of a line, which are those of a car too; readings; readings of the tape;
    the figures of a stick; tables; the places of their rows, 400 for each table; the figures of a car; its
@@ -93,17 +87,15 @@ extern "C" {
  *           totals and four G lines with those of each grade; a car or strike that is turned away has a
  *           line with its own refusal;
  *   1       `out` has fewer than RACK_ANSWER_BYTES bytes: nothing is written, and 0 is returned;
- *   2 to 9, 36
- *           the whole sheet is refused by this number, and `out` has one line that says so.
+ *   2 to 9  the whole sheet is refused by this number, and `out` has one line that says so.
  */
 size_t rack_answer_sheet(const uint8_t *text, size_t text_len,
                          uint8_t *out, size_t out_len,
                          uint32_t *number);
 
 /*
- * Makes one sheet of two, of `first_len` bytes at `first` and of `second_len` bytes at `second`. It begins with
- * an N line that has the edition of both, also where they have none; then it has each type of either sheet
- * once with its rows, rising by type, also one that no car has; then the cars that
+ * Makes one sheet of two, of `first_len` bytes at `first` and of `second_len` bytes at `second`. It has each
+ * type of either sheet once with its rows, rising by type, also one that no car has; then the cars that
  * either sheet holds at its end, accepted or refused, each by its C line as it stands, rising by number; then
  * E, and no K line. So lines of cars that were struck, and such as 9, 10 or 11 turns away, vanish. The merged
  * sheet is written from the start of `out`, which has `out_len` bytes, and its length in bytes is returned.
@@ -113,9 +105,8 @@ size_t rack_answer_sheet(const uint8_t *text, size_t text_len,
  *   0, 0        the sheets are merged. rack_answer_sheet reads what is written: each car has the line that it
  *               has on its own sheet, and the totals, of each grade too, are the sums of both sheets';
  *   1, 0        `out` has fewer than RACK_MERGE_BYTES bytes, be the sheets what they may;
- *   2 to 9, 36  a sheet is itself refused by this number, in this line, 0 for 2; the first sheet's refusal
+ *   2 to 9      a sheet is itself refused by this number, in this line, 0 for 2; the first sheet's refusal
  *               comes before the second's;
- *   36, 0       the sheets are of different editions; one without an N line is of edition 1;
  *   33, 0       a type has different rows on the two sheets, or a car that one holds and 12 refuses there has
  *               its type on the other;
  *   34, 0       both sheets hold a car number;
@@ -129,7 +120,7 @@ size_t rack_merge_sheets(const uint8_t *first, size_t first_len,
                          uint32_t *number, uint32_t *line);
 
 /*
- * Reads one line of a sheet: the byte of its letter (N, T, R, C, K or E) into `*letter`, its numbers into
+ * Reads one line of a sheet: the byte of its letter (T, R, C, K or E) into `*letter`, its numbers into
  * `numbers` [RACK_FIELDS], 0 in the places that the letter does not use. The line ends at its first
  * line feed; bytes behind are not looked at. Refusals 3 to 6; the letters of an answer alone (A, X, S,
  * G and Z) are refused by 4.
@@ -139,7 +130,7 @@ uint32_t rack_read_line(const uint8_t *text, size_t text_len,
                         uint32_t *numbers, size_t numbers_len);
 
 /*
- * Writes one line from the start of `out`: `letter` (N, T, R, C, K, E, A, X, S, G or Z) and as many
+ * Writes one line from the start of `out`: `letter` (T, R, C, K, E, A, X, S, G or Z) and as many
  * of `numbers` [RACK_FIELDS] as the letter has fields; the others are not looked at. Its length in bytes
  * goes into `*length`, and bytes past it stay as they were. RACK_BAD_LETTER, then 22.
  */
@@ -221,32 +212,31 @@ uint32_t rack_oil_share(uint32_t grade, uint32_t water, uint32_t impurities, uin
 uint32_t rack_oil_share_any_grade(uint32_t water, uint32_t impurities, uint32_t *share);
 
 /*
- * A car alone. `car` [RACK_FIELDS] has the numbers of its C line in their order, `edition` is
- * RACK_EDITION_AT_15 or RACK_EDITION_AT_20; `figures` [RACK_FIGURES] gets those of its A line: car number,
- * mean level in 0.1 mm, V0, V15 or V20, gross, net. RACK_BAD_EDITION, then refusals 7, 8, 10, 12 to 15, 23,
- * 16 to 21.
+ * A car alone. `car` [RACK_FIELDS] has the numbers of its C line in their order; `figures`
+ * [RACK_FIGURES] gets those of its A line: car number, mean level in 0.1 mm, V0, V15, gross, net.
+ * Refusals 7, 8, 10, 12 to 15, 23, 16 to 21.
  */
 uint32_t rack_work_out(uint32_t count,
                        const uint32_t *types, size_t types_len,
                        const uint32_t *rows, size_t rows_len,
                        const uint32_t *levels, size_t levels_len,
                        const uint32_t *capacities, size_t capacities_len,
-                       const uint32_t *car, size_t car_len, uint32_t edition,
+                       const uint32_t *car, size_t car_len,
                        uint32_t *figures, size_t figures_len);
 
 /*
- * The permitted error beside the mass of a car alone. `car` and `edition` as in rack_work_out; `errors`
- * [RACK_ERRORS] has the given errors of capacity, density and processing, each 0 to 10,000, of the
- * density's temperature and the oil's, each 0 to 20, and of the level, 0 to 100. `figures`
- * [RACK_PERMITTED] gets those of the A line, the limit n, and 1 where n is within 0.65 %, from 100,000 kg
- * gross on, which is the edition's own, 0.50 %, else 0. Refusals 7, 8, 10, 12 to 15, 23, 16 to 21, 24, 25.
+ * The permitted error beside the mass of a car alone. `car` as in rack_work_out; `errors` [RACK_ERRORS]
+ * has the given errors of capacity, density and processing, each 0 to 10,000, of the density's
+ * temperature and the oil's, each 0 to 20, and of the level, 0 to 100. `figures` [RACK_PERMITTED] gets
+ * those of the A line, the limit n, and 1 where n is within 0.65 %, from 100,000 kg gross on 0.50 %,
+ * else 0. Refusals 7, 8, 10, 12 to 15, 23, 16 to 21, 24, 25.
  */
 uint32_t rack_permitted_error(uint32_t count,
                               const uint32_t *types, size_t types_len,
                               const uint32_t *rows, size_t rows_len,
                               const uint32_t *levels, size_t levels_len,
                               const uint32_t *capacities, size_t capacities_len,
-                              const uint32_t *car, size_t car_len, uint32_t edition,
+                              const uint32_t *car, size_t car_len,
                               const uint32_t *errors, size_t errors_len,
                               uint32_t *figures, size_t figures_len);
 
@@ -266,28 +256,26 @@ uint32_t rack_set_tenths(float level, float temperature, float density,
 
 /*
  * A probe's car alone. `car` [RACK_PROBE_FIELDS] has its car number, type, grade, stick, water level in mm,
- * water and impurities, and the set has the rest: its level in tenths stands for the mean level. `edition` and
- * `figures` as in rack_work_out. Refusals 31 and 32 of the set, before all others, then 7, 8, 10, 12, 13, 16
- * to 21.
+ * water and impurities, and the set has the rest: its level in tenths stands for the mean level. `figures`
+ * as in rack_work_out. Refusals 31 and 32 of the set, before all others, then 7, 8, 10, 12, 13, 16 to 21.
  */
 uint32_t rack_work_out_probe(uint32_t count,
                              const uint32_t *types, size_t types_len,
                              const uint32_t *rows, size_t rows_len,
                              const uint32_t *levels, size_t levels_len,
                              const uint32_t *capacities, size_t capacities_len,
-                             const uint32_t *car, size_t car_len, uint32_t edition,
+                             const uint32_t *car, size_t car_len,
                              float level, float temperature, float density,
                              uint32_t *figures, size_t figures_len);
 
-/* The permitted error beside the mass of a probe's car alone: `car`, `edition` and set as in
-   rack_work_out_probe, `errors` and `figures` as in rack_permitted_error. Refusals 31, 32, 7, 8, 10, 12, 13,
-   16 to 21, 24, 25. */
+/* The permitted error beside the mass of a probe's car alone: `car` and set as in rack_work_out_probe,
+   `errors` and `figures` as in rack_permitted_error. Refusals 31, 32, 7, 8, 10, 12, 13, 16 to 21, 24, 25. */
 uint32_t rack_permitted_error_probe(uint32_t count,
                                     const uint32_t *types, size_t types_len,
                                     const uint32_t *rows, size_t rows_len,
                                     const uint32_t *levels, size_t levels_len,
                                     const uint32_t *capacities, size_t capacities_len,
-                                    const uint32_t *car, size_t car_len, uint32_t edition,
+                                    const uint32_t *car, size_t car_len,
                                     float level, float temperature, float density,
                                     const uint32_t *errors, size_t errors_len,
                                     uint32_t *figures, size_t figures_len);
@@ -317,8 +305,7 @@ uint32_t rack_permitted_error_probe(uint32_t count,
 uint32_t rack_train_empty(uint32_t *train, size_t train_len);
 
 /*
- * Enters a car in `train`, which may be any numbers, with its tables. `edition` and `figures` as in
- * rack_work_out; cars of both editions may stand in one train.
+ * Enters a car in `train`, which may be any numbers, with its tables. `figures` as in rack_work_out.
  * Refusals 7 to 15, 23, 16 to 21. 9 says that `train` holds sixty numbers, or what 9 says of
  * rack_train_strike. With 0, or a refusal from 12 on, the first free place holds the car's number: with 0
  * its grade and masses stand beside it and are in the totals of all cars and of its grade, with a refusal
@@ -330,13 +317,13 @@ uint32_t rack_train_enter(uint32_t *train, size_t train_len,
                           const uint32_t *rows, size_t rows_len,
                           const uint32_t *levels, size_t levels_len,
                           const uint32_t *capacities, size_t capacities_len,
-                          const uint32_t *car, size_t car_len, uint32_t edition,
+                          const uint32_t *car, size_t car_len,
                           uint32_t *figures, size_t figures_len);
 
 /*
- * Enters a probe's car in `train` in the same way; dipped cars may stand in it too. `car`, `edition` and set
- * as in rack_work_out_probe. Refusals 31, 32, 7 to 13, 16 to 21. With 31 or 32, as with 7 to 11, `train`
- * stays as it was; with 0 and every other refusal it holds the car as rack_train_enter says.
+ * Enters a probe's car in `train` in the same way; dipped cars may stand in it too. `car` and set as in
+ * rack_work_out_probe. Refusals 31, 32, 7 to 13, 16 to 21. With 31 or 32, as with 7 to 11, `train` stays as
+ * it was; with 0 and every other refusal it holds the car as rack_train_enter says.
  */
 uint32_t rack_train_enter_probe(uint32_t *train, size_t train_len,
                                 uint32_t count,
@@ -344,7 +331,7 @@ uint32_t rack_train_enter_probe(uint32_t *train, size_t train_len,
                                 const uint32_t *rows, size_t rows_len,
                                 const uint32_t *levels, size_t levels_len,
                                 const uint32_t *capacities, size_t capacities_len,
-                                const uint32_t *car, size_t car_len, uint32_t edition,
+                                const uint32_t *car, size_t car_len,
                                 float level, float temperature, float density,
                                 uint32_t *figures, size_t figures_len);
 

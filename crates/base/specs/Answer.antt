@@ -11,7 +11,7 @@ refuse_if n b = record { number = n; applies = b }
 
 -- the last number of the list of refusals
 abbrev pub last_refusal : ℕ
-last_refusal = 36
+last_refusal = 35
 
 pub data Verdict : Type 0 where
   accepts : Verdict
