@@ -4,13 +4,12 @@
 
 ghost use Rattle.std.specs.Prelude.{◌≤◌, length, IfOk};
 
-use std::io::{self, Write};
-use std::rt::{Env, Files};
-use std::{env, fs};
-
 use input::read_full;
 use merge::LEAST_MERGE_BUFFER;
 use sheet::LONGEST_SHEET;
+use std::io::{self, Write};
+use std::rt::{Env, Files};
+use std::{env, fs};
 
 // Reads a file, one byte more than the longest sheet at most, so that a longer one is seen to be too long. Of a file that cannot be
 // opened it says why, and nothing is read.
@@ -18,7 +17,7 @@ fn read_file(rt: &(impl Files + Eprint), path: &str, text: &mut [u8]) -> io::Res
     ensures { IfOk result (λ n. n ≤ length text.new) }
 {
     match fs::open(rt, path) {
-        Ok(mut file) => read_full(&mut file, text),
+        Ok(mut file) => Ok(read_full(&mut file, text)),
         Err(why) => {
             eprintln!(rt; "{path}: {why}")?;
             Ok(0)
