@@ -29,7 +29,8 @@ pub fn held_cars(fields: &[u32; HISTORY_NUMBERS], n: usize) -> Held
     while i < n {
         let mark = fields[LINE_PLACES * i];
         let number = fields[LINE_PLACES * i + 1];
-        if mark == CAR_MARK {
+        let is_car = mark == CAR_MARK;
+        if is_car {
             count = keep::enter(&mut numbers, &mut places, count, number, i as u32);
         } else {
             count = keep::strike(&mut numbers, &mut places, count, number);

@@ -39,7 +39,7 @@ loop-i-preserved c =
     let l = c.loop-i in
     let places = (start (goal.at.loop-i-preserved c).In-loop-i).args.readings in (
       record {
-        none = more_good places l.i (inside (goal.at.loop-i-preserved c).In-loop-i) l.invariant.0.none (inside_back 1 highest_level (get_or places l.i 0) (omega (arith, c.if-mm-lt1.false)) (omega (arith, c.if-mm-gt-HIGHEST_LEVEL.false)));
+        none = more_good places l.i (inside (goal.at.loop-i-preserved c).In-loop-i) l.invariant.0.none (inside_back 1 highest_level (get_or places l.i 0) (omega arith) (omega arith));
         same = ap (λ (n : ℕ). n + get_or places l.i 0) l.invariant.0.same ∙ more_sum places l.i (inside (goal.at.loop-i-preserved c).In-loop-i);
       },
       search rules,

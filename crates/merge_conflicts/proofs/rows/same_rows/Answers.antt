@@ -9,4 +9,4 @@ loop-i-preserved c =
     let a = c.args in
     c.loop-i.invariant
     ∙ same_next a.levels.now a.capacities.now a.at a.levels2.now a.capacities2.now a.at2 a.n c.loop-i.i
-    (omega (arith, c.loop-i-test.true)) c.if-levels-a.false c.if-capacities-a.false
+    (omega (arith, c.loop-i-test.true)) (omega arith) (omega arith)
