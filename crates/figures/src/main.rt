@@ -2,8 +2,8 @@
 // What it must write, the file stdout, comes from the separately written code in reference/.
 #![tactic(auto)]
 
-use std::io;
 use showing::{field, places_of, refused, say, show_figures};
+use std::io;
 use tankcar::{Car, CarAnswer, Density15, DensityAt20, Directory, Expansion, Factor, LEAST_BUFFER};
 
 // The density at 20 °C for a grade, in 0.1 kg/m³.
@@ -102,6 +102,9 @@ fn main(rt: HostRuntime) -> io::Result<()> {
     show_density(&rt, 3, 9900)?;
     show_annex(&rt)?;
     show_sheet(&rt, b"")?;
-    show_sheet(&rt, b"T        1        2\nR        0        0\nR        1        1\nE        0\n")?;
+    show_sheet(
+        &rt,
+        b"T        1        2\nR        0        0\nR        1        1\nE        0\n",
+    )?;
     Ok(())
 }

@@ -1,9 +1,8 @@
 // What the test programs share: text, numbers, refusals and a car's figures written, and a table of four rows.
 #![tactic(auto)]
 
-use std::io::{self, Write};
-
 use car::Figures;
+use std::io::{self, Write};
 use table::PLACES;
 
 pub fn say(rt: &impl Print, text: &[u8]) -> io::Result<()> {
