@@ -37,6 +37,7 @@ pub extern "C" fn rack_read_line(text: &[u8], letter: &mut u8, numbers: &mut [u3
 }
 
 // The letter whose byte is b, of a sheet or of an answer.
+#[tactic(auto, using(base::proofs::Tests::tests), unfolding(crate::specs::Lines::letter_named))]
 fn letter_named(b: u8) -> Found
     ensures { result ≡ letter_named b }
 {

@@ -16,6 +16,7 @@ pub const PROBE_FIELDS: usize = 7;
 const FIGURES: usize = 6;
 
 // Whether the slices of a car of so many numbers, its tables and its figures have the lengths that they must have.
+#[tactic(auto, using(base::proofs::Tests::tests), unfolding(crate::specs::Layout::car_sized))]
 pub fn car_fits(
     fields: usize,
     types: &[u32],

@@ -13,6 +13,7 @@ const ERRORS: usize = 6;
 const PERMITTED: usize = 8;
 
 // Whether the slices of a car of so many numbers, its tables, the errors and the figures have the lengths that they must have.
+#[tactic(auto, using(base::proofs::Tests::tests), unfolding(crate::specs::Layout::permitted_sized))]
 pub fn permitted_fits(
     fields: usize,
     types: &[u32],

@@ -8,6 +8,7 @@ use base::MOST_TABLES;
 use table::{Directory, PLACES};
 
 // Whether the slices of tables have the lengths that they must have.
+#[tactic(auto, using(base::proofs::Tests::tests), unfolding(crate::specs::Layout::tables_sized))]
 pub fn tables_fit(types: &[u32], rows: &[u32], levels: &[u32], capacities: &[u32]) -> bool
     ensures { result ≡ tables_sized types.now rows.now levels.now capacities.now }
 {
