@@ -22,7 +22,7 @@
  * once do not disturb each other.
  * Stack: 65,536 bytes are enough for every function, and 32,768 for every one but rack_merge_sheets, which
  * takes about 52,000; rack_answer_sheet takes about 29,000, rack_permitted_error_probe about 17,000,
- * rack_train_enter and rack_train_enter_probe about 6,500, each other function that takes a car or a density
+ * rack_train_enter and rack_train_enter_probe about 6,000, each other function that takes a car or a density
  * about 4,000, of which 3,604 are the stored coefficients of expansion, rack_train_strike about 3,000, the
  * rest less than 2,000.
  *

@@ -114,7 +114,7 @@ pub fn enter_probed(
         expansion,
     );
     let answer = entered.answer;
-    let next = crate::running::with_sums(entered.held, numbers, grades, grosses, nets);
+    let next = crate::running::with_sums(entered.held, &numbers, &grades, &grosses, &nets);
     Step {
         answer,
         train: next,

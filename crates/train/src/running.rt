@@ -28,22 +28,22 @@ use train_strike::StrikeAnswer;
 // The train of these cars, with the sums that they make.
 pub fn with_sums(
     held: u32,
-    numbers: [u32; MOST_CARS],
-    grades: [u32; MOST_CARS],
-    grosses: [u32; MOST_CARS],
-    nets: [u32; MOST_CARS],
+    numbers: &[u32; MOST_CARS],
+    grades: &[u32; MOST_CARS],
+    grosses: &[u32; MOST_CARS],
+    nets: &[u32; MOST_CARS],
 ) -> Train
     requires { held ≤ most_cars }
-    ensures { train_told result ≡ lent_train held numbers grades grosses nets }
+    ensures { train_told result ≡ lent_train held numbers.now grades.now grosses.now nets.now }
 {
-    let sums = train_audit::made_by(held as usize, &grades, &grosses, &nets);
+    let sums = train_audit::made_by(held as usize, grades, grosses, nets);
     Train {
         sums,
         held,
-        numbers,
-        grades,
-        grosses,
-        nets,
+        numbers: *numbers,
+        grades: *grades,
+        grosses: *grosses,
+        nets: *nets,
     }
 }
 
@@ -140,7 +140,7 @@ impl Train {
             expansion,
         );
         let answer = entered.answer;
-        let train = with_sums(entered.held, numbers, grades, grosses, nets);
+        let train = with_sums(entered.held, &numbers, &grades, &grosses, &nets);
         Step { answer, train }
     }
 
@@ -173,7 +173,7 @@ impl Train {
             number,
         );
         let answer = struck.answer;
-        let train = with_sums(struck.held, numbers, grades, grosses, nets);
+        let train = with_sums(struck.held, &numbers, &grades, &grosses, &nets);
         StrikeStep { answer, train }
     }
 }

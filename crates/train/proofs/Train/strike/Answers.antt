@@ -45,7 +45,7 @@ struck-on : (e : After-strike_on-struck) → let r = e.strike_on-struck in
     × (lent_train r.result.held r.new.numbers r.new.grades r.new.grosses r.new.nets ≡ strike_train ((train_told e.args.self)) e.args.number)
 struck-on e =
     let t = e.args.self in
-    rows_struck (tally e.before.before.before.before.before.before.before.before.before.before.before.before.before.before.before.before) t.numbers t.grades t.grosses t.nets ((not_sound (told (began e.before.before.before.before.before.before)) (sym e.is_unsound.ensures ∙ e.if-is_unsound.false))) e.args.number e.strike_on-struck.ensures
+    rows_struck (tally e.before.before.before.before.before.before.before.before.before.before.before.before.before.before.before.before.before) t.numbers t.grades t.grosses t.nets ((not_sound (told (began e.before.before.before.before.before.before.before)) (sym e.is_unsound.ensures ∙ e.if-is_unsound.false))) e.args.number e.strike_on-struck.ensures
 
 pub returns-then-is_unsound : goal.returns-then-is_unsound
 returns-then-is_unsound c =
@@ -58,7 +58,7 @@ strike_on-struck-requires c =
 
 pub with_sums-train-requires : goal.with_sums-train-requires
 with_sums-train-requires c =
-    omega (arith, ap (λ (t : Train). t.held) (struck-on c).1, (struck_placed ((train_told c.args.self)) (sixty (goal.at.with_sums-train-requires c).Start) ((not_sound (told (began (goal.at.with_sums-train-requires c).After-is_unsound)) (sym c.is_unsound.ensures ∙ c.if-is_unsound.false))) c.args.number).few)
+    omega (arith, ap (λ (t : Train). t.held) (struck-on (goal.at.with_sums-train-requires c).After-strike_on-struck).1, (struck_placed ((train_told c.args.self)) (sixty (goal.at.with_sums-train-requires c).Start) ((not_sound (told (began (goal.at.with_sums-train-requires c).After-is_unsound)) (sym c.is_unsound.ensures ∙ c.if-is_unsound.false))) c.args.number).few)
 
 pub returns : goal.returns
 returns c =
