@@ -21,10 +21,9 @@
  * Threads: nothing is kept after a call and no memory is asked for, so calls from several threads at
  * once do not disturb each other.
  * Stack: 65,536 bytes are enough for every function, and 32,768 for every one but rack_merge_sheets, which
- * takes about 52,000; rack_answer_sheet takes about 29,000, rack_permitted_error_probe about 17,000,
- * rack_train_enter and rack_train_enter_probe about 6,000, each other function that takes a car or a density
- * about 4,000, of which 3,604 are the stored coefficients of expansion, rack_train_strike about 3,000, the
- * rest less than 2,000.
+ * takes about 52,000; rack_answer_sheet takes about 29,000, rack_train_enter and rack_train_enter_probe about
+ * 6,000, each other function that takes a car or a density about 4,000, of which 3,604 are the stored
+ * coefficients of expansion, rack_train_strike about 3,000, the rest less than 2,000.
  *
  * Units: a mean level, a stick level and the level of the tape allowance in 0.1 mm; readings, those of the
  * tape too, water levels and the levels of a table's rows in mm; capacities in dm3 at 20 C, volumes in

@@ -19,11 +19,10 @@ use reference::{sheets, ANSWER_BYTES};
 /// Bytes that the header says are enough for all, and for all but a merge.
 const ENOUGH: usize = 65_536;
 const ENOUGH_BUT_FOR_A_MERGE: usize = 32_768;
-/// What it says of a merge, of a sheet, of the permitted error of a probe's car, of a car entered in a train, of the
-/// others that look B up and of a strike, each with 500 bytes for "about", and of any other.
+/// What it says of a merge, of a sheet, of a car entered in a train, of the others that look B up and of a strike,
+/// each with 500 bytes for "about", and of any other.
 const OF_A_MERGE: usize = 52_500;
 const OF_A_SHEET: usize = 29_500;
-const OF_A_PROBES_ERROR: usize = 17_500;
 const OF_AN_ENTRY: usize = 6_500;
 const OF_A_DENSITY: usize = 4_500;
 const OF_A_STRIKE: usize = 3_500;
@@ -182,7 +181,7 @@ fn the_probe() {
     hold_density("work_out_probe", &mut || {
         outside::work_out_probe(TABLES, &PROBED, MEASURED, &mut figures)
     });
-    hold_to(OF_A_PROBES_ERROR, "permitted_error_probe", &mut || {
+    hold_density("permitted_error_probe", &mut || {
         outside::permitted_error_probe(TABLES, &PROBED, MEASURED, &[0; ERRORS], &mut permitted)
     });
     for held in [0, 59] {

@@ -1,6 +1,8 @@
 -- The permitted error of a car by itself: 24 and 25 behind all refusals of the car, and the limit beside its six figures.
-use Rattle.std.specs.Prelude.{ℕ, ◌≡◌, Bool, ◌||◌, List, [], ◌∷◌, ◌++◌, ltb, eqb, get_or}
-use Rattle.base.specs.Answer.{Test, refuse_if, accepts, first, Answer, figures, refusal, answer}
+use Rattle.std.specs.Prelude.{ℕ, ◌≡◌, Bool, ◌||◌, List, [], ◌∷◌, ◌++◌, ltb, eqb, get_or, Result}
+use Rattle.base.specs.Answer.{Test, refuse_if, accepts, first, Answer, answer}
+use Rattle.base.specs.Refusal.{told}
+use Rattle.base.specs.declared.refusal.Refusal.{Refusal}
 use Rattle.base.specs.Numbers.{one_if}
 use Rattle.table.specs.Table.{Table}
 use Rattle.gauging.specs.Capacity.{Gap, rows_around}
@@ -9,8 +11,7 @@ use Rattle.car.specs.declared.Measured.{Measured}
 use Rattle.car.specs.Measured.{rows, v0, gross, mass}
 use Rattle.car.specs.Car.{Intake, measured_of, figures_of, alone_tests}
 use Rattle.accuracy.specs.declared.Errors.{Errors}
-use Rattle.accuracy.specs.declared.PermittedError.{PermittedError}
-use Rattle.accuracy.specs.declared.PermittedError.TheVariants.{Limit, Refused}
+use Rattle.accuracy.specs.declared.Permitted.{Permitted}
 use Rattle.accuracy.specs.Terms.{level_term, terms, sum_of_squares}
 use Rattle.accuracy.specs.Limit.{IsLimit, within}
 
@@ -93,10 +94,10 @@ pub record OnlyAnswer (ts : List Table) (c : Intake) (e : Errors) (a : Answer) :
   pub only : (b : Answer) → PermittedAnswer ts c e b → b ≡ a
 
 -- what the code's answer says
-abbrev pub permitted_told : PermittedError → Answer
-permitted_told (Limit p) =
-    figures
-    (p.figures.number
+abbrev pub permitted_told : Result Permitted Refusal → Answer
+permitted_told =
+    told
+    (λ p. p.figures.number
     ∷ p.figures.level
     ∷ p.figures.v0
     ∷ p.figures.v15
@@ -105,4 +106,3 @@ permitted_told (Limit p) =
     ∷ p.limit
     ∷ one_if p.within
     ∷ [])
-permitted_told (Refused n) = refusal n

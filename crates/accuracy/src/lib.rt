@@ -24,10 +24,3 @@ pub struct Permitted {
     pub limit: u32,
     pub within: bool,
 }
-
-// The permitted error beside the mass, or the refusal.
-#[derive(Clone, Copy)]
-pub enum PermittedError {
-    Limit(Permitted),
-    Refused(u32),
-}

@@ -1,8 +1,10 @@
 -- Answers written: the Z line of a refused sheet, or a line for each line behind the tables in sheet order, the S line and the four G lines; refusal 1 of document 01.
-use Rattle.std.specs.Prelude.{ℕ, ◌+◌, ◌*◌, cond, List, [], ◌∷◌, map, length, ltb}
+use Rattle.std.specs.Prelude.{ℕ, Option, Some, None, ◌+◌, ◌*◌, cond, List, [], ◌∷◌, map, length, ltb}
 use Rattle.base.specs.Limits.{most_car_lines, most_strikes, grade_count}
 use Rattle.base.specs.Answer.{Answer, figures, refusal}
 use Rattle.base.specs.Buffer.{put}
+use Rattle.base.specs.declared.refusal.Refusal.{Refusal}
+use Rattle.base.specs.Refusal.{refusal_number}
 use Rattle.reading.specs.declared.letter.Letter.TheVariants.{Strike as K, CarAccepted, CarRefused, Totals as S, GradeTotals as G, SheetRefused}
 use Rattle.reading.specs.declared.letter.Line.{Line}
 use Rattle.reading.specs.Letter.{width_of}
@@ -85,8 +87,20 @@ sheet_number (whole ts history) = 0
 abbrev pub least_buffer : ℕ
 least_buffer = most_car_lines * width_of CarAccepted + most_strikes * width_of CarRefused + width_of S + grade_count * width_of G
 
+-- what a reply tells: the answer's length, and the number of the refusal, 0 where there is none
+pub record Told : Type 0 where
+  pub length : ℕ
+  pub number : ℕ
+
+abbrev pub refused_number : Option Refusal → ℕ
+refused_number None = 0
+refused_number (Some r) = refusal_number r
+
+abbrev pub reply_told : Reply → Told
+reply_told r = record { length = r.length; number = refused_number r.refusal }
+
 -- 1: the answer buffer is shorter; the length is 0 and the number 1 is handed back
-unfoldable pub reply_of : List ℕ → ℕ → Reply
+unfoldable pub reply_of : List ℕ → ℕ → Told
 reply_of s room =
     cond (ltb room least_buffer)
     (record { length = 0; number = 1 })

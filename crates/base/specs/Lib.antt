@@ -1,6 +1,7 @@
 pub mod Rounding
 pub mod Fraction
 pub mod Answer
+pub mod Refusal
 pub mod Limits
 pub mod Numbers
 pub mod Buffer

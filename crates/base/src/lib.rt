@@ -2,17 +2,19 @@
 // the edition, and the limits.
 #![tactic(auto)]
 
-ghost use Rattle.std.specs.Prelude.{◌≡◌, min, take};
+ghost use Rattle.std.specs.Prelude.{◌≡◌, take};
 ghost use Rattle.base.specs.Rounding.{rounded};
 ghost use Rattle.base.specs.Numbers.{Wide, difference, member};
 ghost use Rattle.base.specs.Edition.{edition_by};
 
-mod limits;
+mod limits; // limits.rt: the limits that more than one rule names
+mod refusal; // refusal.rt: the refusals by their numbers
 
 pub use limits::{
     GRADES, GREATEST_CAPACITY, HIGHEST_LEVEL, LARGEST, MOST_CAR_LINES, MOST_CARS, MOST_ROWS,
     MOST_STRIKES, MOST_TABLES, TENTHS,
 };
+pub use refusal::Refusal;
 
 // The edition of a contract: masses are reckoned at 15 °C in the first, at 20 °C in the second.
 #[derive(Clone, Copy)]
@@ -53,35 +55,16 @@ pub fn wide(x: u32) -> u64
     x as u64
 }
 
-// The lesser of two numbers.
-pub fn lesser(a: usize, b: usize) -> usize
-    ensures { result ≡ min a b }
-{
-    if a < b { a } else { b }
-}
-
 // By how much two numbers differ.
 pub fn difference(a: u32, b: u32) -> u32
     ensures { result ≡ difference a b }
 {
-    if a < b {
-        return b - a;
-    }
-    a - b
+    a.abs_diff(b)
 }
 
 // Whether x is among the first n numbers, or among all where there are fewer.
 pub fn holds(numbers: &[u32], n: usize, x: u32) -> bool
     ensures { result ≡ member x (take n numbers.now) }
 {
-    let last = lesser(n, numbers.len());
-    let mut found = false;
-    let mut i = 0;
-    while i < last {
-        if numbers[i] == x {
-            found = true;
-        }
-        i += 1;
-    }
-    found
+    numbers[..n.min(numbers.len())].contains(&x)
 }

@@ -2,15 +2,12 @@
 use Prim.Native.Nat.{ℕ}
 use mathlib.Core.Path.{◌≡◌, refl, sym, ap, ◌∙◌}
 use mathlib.Core.Bool.{true}
-use mathlib.Core.List.{List, ◌++◌, append_assoc}
-use Rattle.base.specs.Answer.{Test, Verdict, accepts, refuses, first, first_number, refusal, answer}
-use Rattle.base.proofs.Answer.{numbered, numbered-append, passed, answer_figures, refuses-append, refused-append, accepted-append, accepted_parts}
+use mathlib.Core.List.{List, [], ◌∷◌, ◌++◌, append_assoc}
+use Rattle.base.specs.Answer.{Test, Verdict, accepts, refuses, first, figures, refusal, answer}
+use Rattle.base.proofs.Answer.{numbered, answer_figures, refuses-append, accepted-append, accepted_parts}
 use Rattle.probe_spec.specs.Tenths.{set_tests}
 use Rattle.table.specs.Table.{Table, tables_tests, tables_verdict}
-use Rattle.table.proofs.Table.{tables_numbered}
-use Rattle.gauging.specs.Capacity.{kind_tests, level_tests, volume_tests, volume_on, volume_told}
-use Rattle.gauging.specs.declared.Volume.{Volume}
-use Rattle.gauging.specs.declared.Volume.TheVariants.{Hundredths, Refused}
+use Rattle.gauging.specs.Capacity.{kind_tests, level_tests, volume_tests, volume_on}
 use Rattle.gauging.proofs.Answers.{volume_refused}
 use Rattle.grading.specs.Grades.{code_tests, oil_tests}
 use Rattle.car.specs.declared.Measured.{Measured}
@@ -27,10 +24,6 @@ unfolding set_tests
 before_numbered (dipped c) = refl
 before_numbered (probed c) = refl
 
-dip_numbered : (h : Intake) → numbered (dip_tests h) ≡ true
-dip_numbered (dipped c) = refl
-dip_numbered (probed c) = refl
-
 pub own_numbered : (ts : List Table) (h : Intake) → numbered (car_tests ts h) ≡ true
 unfolding car_tests measured_tests
 own_numbered ts (dipped c) = refl
@@ -44,25 +37,22 @@ module _ (ts : List Table) (c : Intake) where
   abbrev readings : List Test
   readings = dip_tests c
 
-  pub own_early : {k : ℕ} → k ≡ first_number (early_tests ts m) → (k ≡ 0 → ⊥) → refusal k ≡ own_answer ts c
+  pub own_early : {k : ℕ} → first (early_tests ts m) ≡ refuses k → refusal k ≡ own_answer ts c
   unfolding own_answer car_tests measured_tests
-  own_early e n = by_verdict (figures_of ts c) (refused-append (readings ++ late_tests ts m) (early_tests ts m) e n)
+  own_early e = by_verdict (figures_of ts c) (refuses-append (readings ++ late_tests ts m) (early_tests ts m) e)
 
-  module _ {k : ℕ} (e : k ≡ first_number (early_tests ts m)) (z : k ≡ 0) where
-    pub early_passed : first (early_tests ts m) ≡ accepts
-    early_passed = passed (early_tests ts m) refl e z
-
+  module _ (e : first (early_tests ts m) ≡ accepts) where
     from_readings : first (car_tests ts c) ≡ first (readings ++ late_tests ts m)
     unfolding car_tests measured_tests
-    from_readings = accepted-append (readings ++ late_tests ts m) (early_tests ts m) early_passed
+    from_readings = accepted-append (readings ++ late_tests ts m) (early_tests ts m) e
 
-    pub own_readings : {j : ℕ} → j ≡ first_number readings → (j ≡ 0 → ⊥) → refusal j ≡ own_answer ts c
+    pub own_readings : {k : ℕ} → first readings ≡ refuses k → refusal k ≡ own_answer ts c
     unfolding own_answer
-    own_readings f n = by_verdict (figures_of ts c) (from_readings ∙ refused-append (late_tests ts m) readings f n)
+    own_readings f = by_verdict (figures_of ts c) (from_readings ∙ refuses-append (late_tests ts m) readings f)
 
-    pub own_late : {j : ℕ} → j ≡ first_number readings → j ≡ 0 → answer (first (late_tests ts m)) (figures_of ts c) ≡ own_answer ts c
+    pub own_late : first readings ≡ accepts → answer (first (late_tests ts m)) (figures_of ts c) ≡ own_answer ts c
     unfolding own_answer
-    own_late f y = by_verdict (figures_of ts c) (from_readings ∙ accepted-append (late_tests ts m) readings (passed readings (dip_numbered c) f y))
+    own_late f = by_verdict (figures_of ts c) (from_readings ∙ accepted-append (late_tests ts m) readings f)
 
 -- 16 and 17 with the volume, then 18 to 21.
 module _ (ts : List Table) (m : Measured) (number : ℕ) (early : first (early_tests ts m) ≡ accepts) where
@@ -76,17 +66,17 @@ module _ (ts : List Table) (m : Measured) (number : ℕ) (early : first (early_t
   from_volume : first (volume_tests ts m.kind m.level m.water_level) ≡ first at_level
   from_volume = accepted-append at_level (kind_tests ts m.kind) (accepted_parts (code_tests m.grade m.stick) (kind_tests ts m.kind) early).0
 
-  module _ (r : Volume) (e : volume_told r ≡ volume_on ts m.kind m.level m.water_level) where
-    pub volume_away : {n : ℕ} → r ≡ Refused n → refusal n ≡ answer (first (late_tests ts m)) (six_figures ts number m)
-    volume_away h =
-        by_verdict (six_figures ts number m) (refuses-append of_oil at_level (sym from_volume ∙ volume_refused ts m.kind m.level m.water_level e h))
+  pub volume_away : {n : ℕ} → refusal n ≡ volume_on ts m.kind m.level m.water_level → refusal n ≡ answer (first (late_tests ts m)) (six_figures ts number m)
+  volume_away e =
+      by_verdict (six_figures ts number m) (refuses-append of_oil at_level (sym from_volume ∙ volume_refused ts m.kind m.level m.water_level e))
 
-    pub volume_known : {v : ℕ} → r ≡ Hundredths v → answer (first of_oil) (figures_from number m v) ≡ answer (first (late_tests ts m)) (six_figures ts number m)
-    unfolding volume_on v0 six_figures
-    volume_known {v} h =
-        let p = answer_figures (first (volume_tests ts m.kind m.level m.water_level)) (sym (ap volume_told h) ∙ e) in
-        let shown : v ≡ v0 ts m = let q = p.1 in cc in
-        rw shown (by_verdict (figures_from number m (v0 ts m)) (accepted-append of_oil at_level (sym from_volume ∙ p.0)))
+  pub volume_known : {v : ℕ} → figures (v ∷ []) ≡ volume_on ts m.kind m.level m.water_level
+      → answer (first of_oil) (figures_from number m v) ≡ answer (first (late_tests ts m)) (six_figures ts number m)
+  unfolding volume_on v0 six_figures
+  volume_known {v} e =
+      let p = answer_figures (first (volume_tests ts m.kind m.level m.water_level)) e in
+      let shown : v ≡ v0 ts m = let q = p.1 in cc in
+      rw shown (by_verdict (figures_from number m (v0 ts m)) (accepted-append of_oil at_level (sym from_volume ∙ p.0)))
 
 -- A car alone: the tests before all others, 7, 8 and 10, then its own tests.
 
@@ -97,24 +87,20 @@ alone_before ts h e = by_verdict (figures_of ts h) (refuses-append (tables_tests
 abbrev admission : List Table → ℕ → List Test
 admission ts number = tables_tests ts ++ number_tests number
 
-module _ (ts : List Table) (number : ℕ) {k : ℕ} (e : k ≡ first_number (admission ts number)) (z : k ≡ 0) where
-  admitted : first (admission ts number) ≡ accepts
-  admitted = passed (admission ts number) (numbered-append (tables_tests ts) (number_tests number) (tables_numbered ts) refl) e z
+pub alone_tables : (ts : List Table) (number : ℕ) → first (admission ts number) ≡ accepts → tables_verdict ts ≡ accepts
+alone_tables ts number e = (accepted_parts (number_tests number) (tables_tests ts) e).0
 
-  pub alone_tables : tables_verdict ts ≡ accepts
-  alone_tables = (accepted_parts (number_tests number) (tables_tests ts) admitted).0
-
-module _ (ts : List Table) (h : Intake) (none : first (before_tests h) ≡ accepts) {k : ℕ} (e : k ≡ first_number (admission ts (intake_number h))) where
+module _ (ts : List Table) (h : Intake) (none : first (before_tests h) ≡ accepts) where
   from_admission : first (alone_tests ts h) ≡ first (admission ts (intake_number h) ++ car_tests ts h)
   unfolding alone_tests
   from_admission =
       accepted-append (tables_tests ts ++ (number_tests (intake_number h) ++ car_tests ts h)) (before_tests h) none
       ∙ ap first (sym (append_assoc (tables_tests ts) (number_tests (intake_number h)) (car_tests ts h)))
 
-  pub alone_away : (k ≡ 0 → ⊥) → refusal k ≡ alone_answer ts h
+  pub alone_away : {k : ℕ} → first (admission ts (intake_number h)) ≡ refuses k → refusal k ≡ alone_answer ts h
   unfolding alone_answer
-  alone_away n = by_verdict (figures_of ts h) (from_admission ∙ refused-append (car_tests ts h) (admission ts (intake_number h)) e n)
+  alone_away e = by_verdict (figures_of ts h) (from_admission ∙ refuses-append (car_tests ts h) (admission ts (intake_number h)) e)
 
-  pub alone_own : k ≡ 0 → own_answer ts h ≡ alone_answer ts h
+  pub alone_own : first (admission ts (intake_number h)) ≡ accepts → own_answer ts h ≡ alone_answer ts h
   unfolding alone_answer own_answer
-  alone_own z = by_verdict (figures_of ts h) (from_admission ∙ accepted-append (car_tests ts h) (admission ts (intake_number h)) (admitted ts (intake_number h) e z))
+  alone_own e = by_verdict (figures_of ts h) (from_admission ∙ accepted-append (car_tests ts h) (admission ts (intake_number h)) e)

@@ -1,8 +1,10 @@
 -- A car, dipped or read by a probe: refusals 10 and 12 to 21 of document 01, with 23 between 15 and 16, and 31 and 32 before all, in one list, and its
 -- answer.
-use Rattle.std.specs.Prelude.{ℕ, List, [], ◌∷◌, ◌++◌, get_or}
+use Rattle.std.specs.Prelude.{ℕ, List, [], ◌∷◌, ◌++◌, get_or, Result}
 use Rattle.base.specs.Limits.{largest}
-use Rattle.base.specs.Answer.{Test, refuse_if, first, Answer, figures, refusal, answer}
+use Rattle.base.specs.Answer.{Test, refuse_if, first, Answer, answer}
+use Rattle.base.specs.Refusal.{told}
+use Rattle.base.specs.declared.refusal.Refusal.{Refusal}
 use Rattle.base.specs.Numbers.{outside}
 use Rattle.dip.specs.Level.{mean_level, readings_tests}
 use Rattle.probe_spec.specs.declared.ProbeSet.{ProbeSet}
@@ -11,8 +13,7 @@ use Rattle.table.specs.Table.{Table, tables_tests}
 use Rattle.car.specs.declared.Car.{Car}
 use Rattle.car.specs.declared.ProbeCar.{ProbeCar}
 use Rattle.car.specs.declared.Measured.{Measured}
-use Rattle.car.specs.declared.CarAnswer.{CarAnswer}
-use Rattle.car.specs.declared.CarAnswer.TheVariants.{Accepted, Refused}
+use Rattle.car.specs.declared.Figures.{Figures}
 use Rattle.car.specs.Measured.{measured_tests, six_figures}
 
 -- a car by the fourteen numbers of its C line
@@ -121,6 +122,5 @@ unfoldable pub alone_answer : List Table → Intake → Answer
 alone_answer ts h = answer (first (alone_tests ts h)) (figures_of ts h)
 
 -- what the code's answer says
-abbrev pub car_told : CarAnswer → Answer
-car_told (Accepted f) = figures (f.number ∷ f.level ∷ f.v0 ∷ f.v15 ∷ f.gross ∷ f.net ∷ [])
-car_told (Refused n) = refusal n
+abbrev pub car_told : Result Figures Refusal → Answer
+car_told = told (λ f. f.number ∷ f.level ∷ f.v0 ∷ f.v15 ∷ f.gross ∷ f.net ∷ [])

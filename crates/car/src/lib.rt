@@ -48,10 +48,18 @@ pub struct Measured {
     pub impurities: u32,
 }
 
-// A probe's car whose set has come to tenths: its number, and what is measured of it.
+// Readings of a level, in mm: how many are given, and four places for them.
 #[derive(Clone, Copy)]
-pub struct Probed {
+pub struct Readings {
+    pub count: u32,
+    pub places: [u32; 4],
+}
+
+// A car as its answers go by it, dipped or read by a probe: its number, its readings where it was dipped, and what is measured of it.
+#[derive(Clone, Copy)]
+pub struct HandedIn {
     pub number: u32,
+    pub readings: Option<Readings>,
     pub measured: Measured,
 }
 
@@ -64,11 +72,4 @@ pub struct Figures {
     pub v15: u32,
     pub gross: u32,
     pub net: u32,
-}
-
-// A car's answer: six figures, or the refusal.
-#[derive(Clone, Copy)]
-pub enum CarAnswer {
-    Accepted(Figures),
-    Refused(u32),
 }

@@ -1,17 +1,17 @@
--- Given readings as a loop passes them: one more, one that is out of range, and how large their sum can be.
+-- Given readings as a loop passes them: one more, and how large their sum can be.
 use Prim.Native.Nat.{ℕ, ◌+◌, ◌*◌, ◌≤◌, ◌<◌}
-use mathlib.Core.Path.{◌≡◌, refl, sym, ap, ◌∙◌, subst}
-use mathlib.Core.Bool.{Bool, true, false, true≢false}
+use mathlib.Core.Path.{◌≡◌, refl, ap, ◌∙◌}
+use mathlib.Core.Bool.{false}
 use mathlib.Core.List.{List, [], ◌∷◌}
 use native.Mathlib.Numerals.{add-one}
 use native.Mathlib.Omega.{arith}
 use lib.ListN.{length, get_or}
-use lib.Seq.{take-suc, length-take-le, get_or-take}
+use lib.Seq.{take-suc, length-take-le}
 use Rattle.base.specs.Limits.{highest_level}
 use Rattle.base.specs.Numbers.{outside}
 use Rattle.base.specs.Total.{total}
 use Rattle.base.proofs.Choice.{neither}
-use Rattle.base.proofs.Numbers.{inside_back, any_more}
+use Rattle.base.proofs.Numbers.{any_more}
 use Rattle.base.proofs.Total.{total-append}
 use Rattle.comparison.specs.Answers.{given, sum_of, reading_bad}
 use Rattle.comparison.proofs.Ranges.{readings_in}
@@ -25,16 +25,6 @@ sum_most (x ∷ l) e = omega (arith, (readings_in (x ∷ l) e 0 (omega arith)).m
 module _ (l : List ℕ) (n : ℕ) where
   pub given_most : n ≤ length l → reading_bad (given n l) ≡ false → sum_of (given n l) ≤ highest_level * n
   given_most room e = omega (arith, sum_most (given n l) e, length-take-le n l room)
-
-  -- one of them is out of range
-  pub one_bad : {i : ℕ} → n ≤ length l → i < n → outside 1 highest_level (get_or l i 0) ≡ true → reading_bad (given n l) ≡ true
-  one_bad {i} room h e = go (reading_bad (given n l)) refl
-    where
-      go : (b : Bool) → reading_bad (given n l) ≡ b → b ≡ true
-      go true f = refl
-      go false f =
-          let k = readings_in (given n l) f i (rw (length-take-le n l room) h) in
-          absurd (true≢false (sym e ∙ subst (λ (mm : ℕ). outside 1 highest_level mm ≡ false) (get_or-take n l i 0 h) (inside_back 1 highest_level (get_or (given n l) i 0) k.least k.most)))
 
   -- one more
   pub more_good : n < length l → reading_bad (given n l) ≡ false → outside 1 highest_level (get_or l n 0) ≡ false → reading_bad (given (n + 1) l) ≡ false

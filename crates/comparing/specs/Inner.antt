@@ -1,22 +1,23 @@
 -- What inner functions ask for and hand on; it is no part of what request (f) means.
-use Rattle.std.specs.Prelude.{ℕ, ◌*◌, ◌≤◌, ◌≡◌, true, false, List, [], ◌∷◌}
+use Rattle.std.specs.Prelude.{ℕ, ◌*◌, ◌≤◌, ◌≡◌, true, false, List, [], ◌∷◌, Result, Ok, Err}
 use Rattle.base.specs.Answer.{refuse_if, first, answer}
+use Rattle.base.specs.declared.refusal.Refusal.{Refusal}
+use Rattle.base.specs.declared.refusal.Refusal.TheVariants.{TapeReading}
 use Rattle.base.specs.Limits.{highest_level, tenths}
 use Rattle.dip.specs.Tape.{listed, off_tape}
-use Rattle.comparison.specs.declared.StickCheck.{StickCheck}
+use Rattle.comparison.specs.declared.Comparison.{Comparison}
 use Rattle.comparison.specs.Answers.{sum_of, reading_bad, comparison_at, four_figures, check_told}
 use Rattle.comparison.specs.Told.{CountInRange}
-use Rattle.comparing.specs.declared.TapeSum.{TapeSum}
-use Rattle.comparing.specs.declared.TapeSum.TheVariants.{Millimetres, Outside}
 
 -- the sum of readings that are all in range
 pub record InRange (readings : List ℕ) (sum : ℕ) : Type 0 where
   pub none : reading_bad readings ≡ false
   pub same : sum ≡ sum_of readings
 
-abbrev pub SumRight : List ℕ → TapeSum → Type 0
-SumRight readings (Millimetres sum) = InRange readings sum
-SumRight readings Outside = reading_bad readings ≡ true
+-- or 29
+abbrev pub SumRight : List ℕ → Result ℕ Refusal → Type 0
+SumRight readings (Ok sum) = InRange readings sum
+SumRight readings (Err r) = (r ≡ TapeReading) × (reading_bad readings ≡ true)
 
 -- as many readings as 28 takes, and a sum that is not above that of as many highest levels
 pub record TapeInRange (sum m : ℕ) : Type 0 where
@@ -29,5 +30,5 @@ pub record BothInRange (stick sum m : ℕ) : Type 0 where
   pub most : stick ≤ tenths * highest_level
 
 -- the comparison where the tape takes the stick level, else 29
-abbrev pub OnTape : ℕ → ℕ → ℕ → StickCheck → Type 0
+abbrev pub OnTape : ℕ → ℕ → ℕ → Result Comparison Refusal → Type 0
 OnTape stick sum m r = check_told r ≡ answer (first (refuse_if 29 (off_tape stick) ∷ [])) (four_figures (comparison_at stick sum m (listed stick)))

@@ -2,15 +2,14 @@
 #![tactic(auto)]
 
 ghost use Rattle.std.specs.Prelude.{◌≡◌, ◌≤◌};
-ghost use Rattle.comparison.specs.Answers.{most_readings, given, comparison_at, check_answer, check_told};
+ghost use Rattle.comparison.specs.Answers.{most_readings, given, count_bad, comparison_at, check_answer, check_told};
 ghost use Rattle.comparison.specs.Told.{ToldOnly};
 ghost use Rattle.comparison.specs.Exchange.{ExchangeRight};
 ghost use Rattle.comparison.specs.Card.{ChecksRight};
 ghost use Rattle.comparing.specs.Inner.{SumRight, TapeInRange, BothInRange, OnTape};
 
-use base::{HIGHEST_LEVEL, TENTHS};
-use comparison::{Comparison, Difference, StickCheck, TAPE_READINGS};
-use dip::Allowance;
+use base::{HIGHEST_LEVEL, Refusal, TENTHS};
+use comparison::{Comparison, Difference, TAPE_READINGS};
 
 // How many readings of the tape there may be.
 const FEWEST_READINGS: u32 = 10;
@@ -22,32 +21,27 @@ const MILLIMETRE: u64 = 100;
 
 const MOST_APART: u64 = 200;
 
-// The sum of given readings in mm, or that one of them is outside 1 to 3,600 mm.
-#[derive(Clone, Copy)]
-enum TapeSum {
-    Millimetres(u32),
-    Outside,
+// Whether so many readings are too few or too many.
+fn is_count_bad(count: u32) -> bool
+    ensures { result ≡ count_bad count }
+{
+    count < FEWEST_READINGS || MOST_READINGS < count
 }
 
-// The sum of the first `count` readings.
-fn sum_of(readings: [u32; TAPE_READINGS], count: u32) -> TapeSum
+// The sum of the first `count` readings in mm; 29 where one of them is outside 1 to 3,600 mm.
+fn sum_of(readings: [u32; TAPE_READINGS], count: u32) -> Result<u32, Refusal>
     requires { count ≤ most_readings }
     ensures { SumRight (given count readings) result }
 {
+    let given = &readings[..count as usize];
     let mut sum = 0;
-    let mut i = 0;
-    while i < count {
-        let mm = readings[i as usize];
-        if mm < 1 {
-            return TapeSum::Outside; // below
-        }
-        if HIGHEST_LEVEL < mm {
-            return TapeSum::Outside; // above
+    for &mm in given {
+        if mm < 1 || HIGHEST_LEVEL < mm {
+            return Err(Refusal::TapeReading);
         }
         sum += mm;
-        i += 1;
     }
-    TapeSum::Millimetres(sum)
+    Ok(sum)
 }
 
 // The stick level beside m readings of the tape with their sum, and the tape allowance for it.
@@ -63,40 +57,36 @@ fn compare(stick: u64, sum: u32, m: u32, allowance: u32) -> Comparison
     let apart = MILLIMETRE * base::difference(by_stick, by_tape) as u64;
     let passes = apart <= MOST_APART * parts;
     let size = base::round_half_up(apart, parts) as u32;
-    let difference = Difference { negative, size };
     Comparison {
-        difference,
+        difference: Difference { negative, size },
         passes,
         allowance,
     }
 }
 
 // The same with the allowance, or 29 for a stick level that the tape does not take.
-fn compare_on_tape(stick: u64, sum: u32, m: u32) -> StickCheck
+fn compare_on_tape(stick: u64, sum: u32, m: u32) -> Result<Comparison, Refusal>
     requires { TapeInRange sum m }
     ensures { OnTape stick sum m result }
 {
     match tape::tape_allowance(stick) {
-        Allowance::HundredthsOfMillimetre(allowance) => StickCheck::Compared(compare(
-            stick, sum, m, allowance,
-        )),
-        Allowance::Refused(_) => StickCheck::Refused(29),
+        Ok(allowance) => Ok(compare(stick, sum, m, allowance)),
+        Err(_) => Err(Refusal::TapeReading),
     }
 }
 
 // The stick level beside the first `count` readings; 28 where these are too few or too many, else 29 where one of them is outside
 // 1 to 3,600 mm or the stick level outside 10 to 36,000 tenths.
-pub fn stick_against_tape(stick: u64, count: u32, readings: [u32; TAPE_READINGS]) -> StickCheck
+pub fn stick_against_tape(
+    stick: u64,
+    count: u32,
+    readings: [u32; TAPE_READINGS],
+) -> Result<Comparison, Refusal>
     ensures { (check_told result ≡ check_answer stick count readings) × ToldOnly stick count readings result × ExchangeRight stick count readings result × ChecksRight }
 {
-    if count < FEWEST_READINGS {
-        return StickCheck::Refused(28); // too few
+    if is_count_bad(count) {
+        return Err(Refusal::TapeCount);
     }
-    if MOST_READINGS < count {
-        return StickCheck::Refused(28); // too many
-    }
-    match sum_of(readings, count) {
-        TapeSum::Millimetres(sum) => compare_on_tape(stick, sum, count),
-        TapeSum::Outside => StickCheck::Refused(29),
-    }
+    let sum = sum_of(readings, count)?;
+    compare_on_tape(stick, sum, count)
 }

@@ -4,16 +4,16 @@ use mathlib.Core.Path.{◌≡◌, sym, ap, ap₂, ◌∙◌, subst}
 use mathlib.Core.Bool.{Bool}
 use mathlib.Core.List.{List, [], ◌∷◌}
 use mathlib.Core.Logic.{inl, inr}
+use Rattle.std.proofs.Common.{Result, Ok, Err}
 use native.Mathlib.Omega.{arith}
 use lib.ListN.{length, get_or}
 use lib.Seq.{length-take-le, get_or-take}
+use Rattle.base.specs.declared.refusal.Refusal.{Refusal}
 use Rattle.base.specs.Limits.{in_tenths}
 use Rattle.base.specs.Lists.{Each}
 use Rattle.base.specs.Total.{total}
 use Rattle.comparison.specs.declared.Difference.{Difference}
 use Rattle.comparison.specs.declared.Comparison.{Comparison}
-use Rattle.comparison.specs.declared.StickCheck.{StickCheck}
-use Rattle.comparison.specs.declared.StickCheck.TheVariants.{Compared, Refused}
 use Rattle.comparison.specs.Difference.{parts, signed, close}
 use Rattle.comparison.specs.Answers.{most_readings, given, sum_of, check_answer, check_told}
 use Rattle.comparison.specs.Told.{CountInRange, LevelsInRange, ComparisonRight, ToldRight, ToldOnly}
@@ -98,24 +98,24 @@ module _ (count stood read : ℕ) (places others : List ℕ) (full : length plac
         allowance = g.allowance;
       }
 
-  turned_told : (a b : StickCheck) → ToldRight (in_tenths stood) count places a → ToldRight (in_tenths read) count others b → Turned read a b
-  turned_told (Compared x) (Compared y) f g = figures_turned x y f g
-  turned_told (Compared x) (Refused k) f (inl g) = g.1 f.counted
-  turned_told (Compared x) (Refused k) f (inr g) = g.2 (there g.1 f.levels)
-  turned_told (Refused n) (Compared y) (inl f) g = f.1 g.counted
-  turned_told (Refused n) (Compared y) (inr f) g = f.2 (back f.1 g.levels)
-  turned_told (Refused n) (Refused k) (inl f) (inl g) = g.0 ∙ sym f.0
-  turned_told (Refused n) (Refused k) (inl f) (inr g) = absurd (f.1 g.1)
-  turned_told (Refused n) (Refused k) (inr f) (inl g) = absurd (g.1 f.1)
-  turned_told (Refused n) (Refused k) (inr f) (inr g) = g.0 ∙ sym f.0
+  turned_told : (a b : Result Comparison Refusal) → ToldRight (in_tenths stood) count places a → ToldRight (in_tenths read) count others b → Turned read a b
+  turned_told (Ok x) (Ok y) f g = figures_turned x y f g
+  turned_told (Ok x) (Err s) f (inl g) = g.1 f.counted
+  turned_told (Ok x) (Err s) f (inr g) = g.2 (there g.1 f.levels)
+  turned_told (Err r) (Ok y) (inl f) g = f.1 g.counted
+  turned_told (Err r) (Ok y) (inr f) g = f.2 (back f.1 g.levels)
+  turned_told (Err r) (Err s) (inl f) (inl g) = g.0 ∙ sym f.0
+  turned_told (Err r) (Err s) (inl f) (inr g) = absurd (f.1 g.1)
+  turned_told (Err r) (Err s) (inr f) (inl g) = absurd (g.1 f.1)
+  turned_told (Err r) (Err s) (inr f) (inr g) = g.0 ∙ sym f.0
 
-exchange_right : (stick count : ℕ) (places : List ℕ) (a : StickCheck) → length places ≡ most_readings → check_told a ≡ check_answer stick count places → ExchangeRight stick count places a
+exchange_right : (stick count : ℕ) (places : List ℕ) (a : Result Comparison Refusal) → length places ≡ most_readings → check_told a ≡ check_answer stick count places → ExchangeRight stick count places a
 exchange_right stick count places a full w = λ stood read others b e alike alike' full' v.
     turned_told count stood read places others full full' alike alike' a b
     (subst (λ (n : ℕ). ToldRight n count places a) e (told_right stick count places full a w))
     (told_right (in_tenths read) count others full' b v)
 
 -- all that is said of an answer
-pub check_right : (stick count : ℕ) (places : List ℕ) (a : StickCheck) → length places ≡ most_readings → check_told a ≡ check_answer stick count places
+pub check_right : (stick count : ℕ) (places : List ℕ) (a : Result Comparison Refusal) → length places ≡ most_readings → check_told a ≡ check_answer stick count places
     → (check_told a ≡ check_answer stick count places) × ToldOnly stick count places a × ExchangeRight stick count places a × ChecksRight
 check_right stick count places a full w = (w, told_only stick count places full a w, exchange_right stick count places a full w, checks_right)

@@ -1,13 +1,13 @@
 -- The check of a stick against a tape: 28, then 29, else the difference, whether it passes, and the tape allowance for the stick level.
-use Rattle.std.specs.Prelude.{ℕ, Bool, ◌||◌, List, [], ◌∷◌, take}
-use Rattle.base.specs.Answer.{Test, refuse_if, first, Answer, figures, refusal, answer}
+use Rattle.std.specs.Prelude.{ℕ, Bool, ◌||◌, List, [], ◌∷◌, Result, take}
+use Rattle.base.specs.Answer.{Test, refuse_if, first, Answer, answer}
+use Rattle.base.specs.declared.refusal.Refusal.{Refusal}
+use Rattle.base.specs.Refusal.{told}
 use Rattle.base.specs.Limits.{highest_level}
 use Rattle.base.specs.Numbers.{outside, one_if, any}
 use Rattle.base.specs.Total.{total}
 use Rattle.dip.specs.Tape.{listed, off_tape}
 use Rattle.comparison.specs.declared.Comparison.{Comparison}
-use Rattle.comparison.specs.declared.StickCheck.{StickCheck}
-use Rattle.comparison.specs.declared.StickCheck.TheVariants.{Compared, Refused}
 use Rattle.comparison.specs.Difference.{difference_of, passes_for}
 
 -- the fewest readings of the tape, and the most, which is also how many places are handed in
@@ -60,6 +60,5 @@ unfoldable pub check_answer : ℕ → ℕ → List ℕ → Answer
 check_answer stick count places = answer (first (check_tests stick count places)) (four_figures (comparison_of stick count places))
 
 -- what the code's answer says
-abbrev pub check_told : StickCheck → Answer
-check_told (Compared x) = figures (four_figures x)
-check_told (Refused n) = refusal n
+abbrev pub check_told : Result Comparison Refusal → Answer
+check_told = told four_figures

@@ -1,12 +1,12 @@
 -- A stick and a tape whose readings are all alike: where they are exchanged, the difference turns its sign, and verdict and refusals stay.
-use Rattle.std.specs.Prelude.{ℕ, ◌≡◌, false, cond, not, List, eqb, length}
+use Rattle.std.specs.Prelude.{ℕ, ◌≡◌, false, cond, not, List, Result, Ok, Err, eqb, length}
+use Rattle.base.specs.declared.refusal.Refusal.{Refusal}
+use Rattle.base.specs.Refusal.{refusal_number}
 use Rattle.base.specs.Limits.{in_tenths}
 use Rattle.base.specs.Lists.{Each}
 use Rattle.dip.specs.Tape.{listed}
 use Rattle.comparison.specs.declared.Difference.{Difference}
 use Rattle.comparison.specs.declared.Comparison.{Comparison}
-use Rattle.comparison.specs.declared.StickCheck.{StickCheck}
-use Rattle.comparison.specs.declared.StickCheck.TheVariants.{Compared, Refused}
 use Rattle.comparison.specs.Answers.{most_readings, given, check_answer, check_told}
 
 -- the other sign; 0 has none
@@ -19,11 +19,11 @@ pub record ComparisonTurned (level : ℕ) (x y : Comparison) : Type 0 where
   pub passes : y.passes ≡ x.passes
   pub allowance : y.allowance ≡ listed (in_tenths level)
 
-abbrev pub Turned : ℕ → StickCheck → StickCheck → Type 0
-Turned level (Compared x) (Compared y) = ComparisonTurned level x y
-Turned level (Refused n) (Refused k) = k ≡ n
-Turned level (Compared x) (Refused n) = ⊥
-Turned level (Refused n) (Compared y) = ⊥
+abbrev pub Turned : ℕ → Result Comparison Refusal → Result Comparison Refusal → Type 0
+Turned level (Ok x) (Ok y) = ComparisonTurned level x y
+Turned level (Err r) (Err s) = refusal_number s ≡ refusal_number r
+Turned level (Ok x) (Err r) = ⊥
+Turned level (Err r) (Ok y) = ⊥
 
 -- all given readings are this one, in mm
 abbrev pub AllAt : ℕ → ℕ → List ℕ → Type 0
@@ -31,9 +31,9 @@ AllAt level count places = Each (λ (mm : ℕ). mm ≡ level) (given count place
 
 -- a answers a stick that stood at a level in mm beside a tape that read another in each place given; b is any answer for a stick that stands where the
 -- tape read, and as many readings, handed in as `others`, of where the stick stood
-abbrev pub ExchangeRight : ℕ → ℕ → List ℕ → StickCheck → Type 0
+abbrev pub ExchangeRight : ℕ → ℕ → List ℕ → Result Comparison Refusal → Type 0
 ExchangeRight stick count places a =
-    (stood read : ℕ) (others : List ℕ) (b : StickCheck)
+    (stood read : ℕ) (others : List ℕ) (b : Result Comparison Refusal)
     → stick ≡ in_tenths stood
     → AllAt read count places
     → AllAt stood count others

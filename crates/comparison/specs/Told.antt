@@ -1,11 +1,11 @@
 -- What is handed back, said over exact fractions, and of 29 place by place: without tests, without the stick level times m, and without R.
-use Rattle.std.specs.Prelude.{ℕ, ◌+◌, ◌*◌, ◌≤◌, ◌<◌, ◌≡◌, Bool, true, false, List, ◌⊎◌, get_or}
+use Rattle.std.specs.Prelude.{ℕ, ◌+◌, ◌*◌, ◌≤◌, ◌<◌, ◌≡◌, Bool, true, false, List, Result, Ok, Err, ◌⊎◌, get_or}
 use Rattle.base.specs.Fraction.{Frac, whole, ◌-ᶠ◌, ◌*ᶠ◌, ◌/ᶠ◌, ◌≤ᶠ◌}
+use Rattle.base.specs.declared.refusal.Refusal.{Refusal}
+use Rattle.base.specs.Refusal.{refusal_number}
 use Rattle.base.specs.Limits.{highest_level, tenths}
 use Rattle.dip.specs.Tape.{listed}
 use Rattle.comparison.specs.declared.Comparison.{Comparison}
-use Rattle.comparison.specs.declared.StickCheck.{StickCheck}
-use Rattle.comparison.specs.declared.StickCheck.TheVariants.{Compared, Refused}
 use Rattle.comparison.specs.Answers.{fewest_readings, most_readings, given, sum_of, check_told}
 
 -- Exact, in mm: the stick level, the mean of m readings by their sum, and by how much the stick lies above the mean and below it, of which one is 0.
@@ -71,12 +71,12 @@ pub record ComparisonRight (stick count : ℕ) (places : List ℕ) (x : Comparis
   pub passes : PassRight stick (sum_of (given count places)) count x.difference.size x.passes
   pub allowance : x.allowance ≡ listed stick
 
-abbrev pub ToldRight : ℕ → ℕ → List ℕ → StickCheck → Type 0
-ToldRight stick count places (Compared x) = ComparisonRight stick count places x
-ToldRight stick count places (Refused n) =
-    ((n ≡ 28) × (CountInRange count → ⊥)) ⊎ ((n ≡ 29) × CountInRange count × (LevelsInRange stick count places → ⊥))
+abbrev pub ToldRight : ℕ → ℕ → List ℕ → Result Comparison Refusal → Type 0
+ToldRight stick count places (Ok x) = ComparisonRight stick count places x
+ToldRight stick count places (Err r) =
+    ((refusal_number r ≡ 28) × (CountInRange count → ⊥)) ⊎ ((refusal_number r ≡ 29) × CountInRange count × (LevelsInRange stick count places → ⊥))
 
 -- a is right so, and whatever else is says the same
-pub record ToldOnly (stick count : ℕ) (places : List ℕ) (a : StickCheck) : Type 0 where
+pub record ToldOnly (stick count : ℕ) (places : List ℕ) (a : Result Comparison Refusal) : Type 0 where
   pub right : ToldRight stick count places a
-  pub only : (b : StickCheck) → ToldRight stick count places b → check_told b ≡ check_told a
+  pub only : (b : Result Comparison Refusal) → ToldRight stick count places b → check_told b ≡ check_told a

@@ -4,16 +4,16 @@ use mathlib.Core.Path.{◌≡◌, refl, ap, ap₂, sym, ◌∙◌}
 use mathlib.Core.Bool.{true, false, not, ◌||◌}
 use mathlib.Core.List.{List, [], ◌∷◌, ◌++◌}
 use lib.Dec.{ltb}
+use Rattle.std.proofs.Common.{Result, Ok, Err}
 use borrow.Author.Tests.{le-ltb, leb-false, ltb-false, not-false}
+use Rattle.base.specs.declared.refusal.Refusal.{Refusal}
 use Rattle.base.specs.Limits.{most_cars, grade_count}
-use Rattle.base.specs.Answer.{refuse_if, Verdict, accepts, refuses, first, number_of, first_number, refusal, answer}
+use Rattle.base.specs.Answer.{refuse_if, Verdict, accepts, refuses, first, refusal, answer}
 use Rattle.base.proofs.Choice.{never, neither}
 use Rattle.base.proofs.Numbers.{inside}
-use Rattle.base.proofs.Answer.{numbered-append, not_applied, one_applies, accepted_parts, passed, by_number, refuses-append, refused-append, accepted-append, answer_figures}
+use Rattle.base.proofs.Answer.{not_applied, one_applies, accepted_parts, refuses-append, accepted-append, answer_figures}
 use Rattle.table.specs.Table.{Table, tables_tests, tables_verdict}
-use Rattle.table.proofs.Table.{tables_numbered}
-use Rattle.car.specs.declared.CarAnswer.{CarAnswer}
-use Rattle.car.specs.declared.CarAnswer.TheVariants.{Accepted, Refused}
+use Rattle.car.specs.declared.Figures.{Figures}
 use Rattle.car.specs.Measured.{gross, net, mass, six_figures}
 use Rattle.car.specs.Car.{Intake, intake_number, before_tests, measured_of, car_tests, figures_of, own_answer, car_told}
 use Rattle.car.proofs.Accepted.{passed_car, grade_known}
@@ -75,12 +75,8 @@ unfolding full
 place_tests_lem t number h = simp (sound_not t h)
 
 -- where none of 9 to 11 applies there is a place for the number
-module _ (held : ℕ) (numbers : List ℕ) (number : ℕ) {k : ℕ} (e : k ≡ first_number (place_tests held numbers number)) (z : k ≡ 0) where
-  none_applies : first (place_tests held numbers number) ≡ accepts
-  none_applies = passed (place_tests held numbers number) refl e z
-
-  pub place_left : held < most_cars
-  place_left = leb-false most_cars held (not_applied 9 (place_tests held numbers number) none_applies)
+pub place_left : (held : ℕ) (numbers : List ℕ) (number : ℕ) → accepts ≡ first (place_tests held numbers number) → held < most_cars
+place_left held numbers number e = leb-false most_cars held (not_applied 9 (place_tests held numbers number) (sym e))
 
 -- A car that 7 to 11 turn away, and one that they do not.
 
@@ -101,8 +97,8 @@ module _ (ts : List Table) (t : Train) (c : Intake) where
     by_tables = accepted-append (tables_tests ts ++ train_tests t (intake_number c)) (before_tests c) none
 
     -- turned away by its tables
-    pub tables_away : {k : ℕ} → k ≡ first_number (tables_tests ts) → (k ≡ 0 → ⊥) → (refusal k ≡ enter_answer ts t c) × (t ≡ enter_train ts t c)
-    tables_away e n = admission_refused (by_tables ∙ refused-append (train_tests t (intake_number c)) (tables_tests ts) e n)
+    pub tables_away : {k : ℕ} → refuses k ≡ first (tables_tests ts) → (refusal k ≡ enter_answer ts t c) × (t ≡ enter_train ts t c)
+    tables_away e = admission_refused (by_tables ∙ refuses-append (train_tests t (intake_number c)) (tables_tests ts) (sym e))
 
   -- on tables that are not refused
   module _ (none : first (before_tests c) ≡ accepts) (good : tables_verdict ts ≡ accepts) where
@@ -115,51 +111,51 @@ module _ (ts : List Table) (t : Train) (c : Intake) where
     unsound_away e = admission_refused (by_train ∙ simp e)
 
     -- turned away by 9 to 11
-    away : {k : ℕ} → k ≡ first_number (train_tests t (intake_number c)) → (k ≡ 0 → ⊥) → (refusal k ≡ enter_answer ts t c) × (t ≡ enter_train ts t c)
-    away e n = admission_refused (by_train ∙ by_number (first (train_tests t (intake_number c))) e n)
+    away : {k : ℕ} → refuses k ≡ first (train_tests t (intake_number c)) → (refusal k ≡ enter_answer ts t c) × (t ≡ enter_train ts t c)
+    away e = admission_refused (by_train ∙ sym e)
 
   -- on such tables, in a sound train
   module _ (none : first (before_tests c) ≡ accepts) (good : tables_verdict ts ≡ accepts) (sound : SoundTrain t) where
-    pub place_away : {k : ℕ} → k ≡ first_number (place_tests t.held t.numbers (intake_number c)) → (k ≡ 0 → ⊥) → (refusal k ≡ enter_answer ts t c) × (t ≡ enter_train ts t c)
-    place_away e n = away none good (e ∙ sym (ap first_number (place_tests_lem t (intake_number c) sound))) n
+    pub place_away : {k : ℕ} → refuses k ≡ first (place_tests t.held t.numbers (intake_number c)) → (refusal k ≡ enter_answer ts t c) × (t ≡ enter_train ts t c)
+    place_away e = away none good (e ∙ sym (ap first (place_tests_lem t (intake_number c) sound)))
 
     -- past 9 to 11, the car's own answer
-    pub taken_in : (a : CarAnswer) {k : ℕ} → k ≡ first_number (place_tests t.held t.numbers (intake_number c)) → k ≡ 0 → car_told a ≡ own_answer ts c
+    pub taken_in : (a : Result Figures Refusal) → accepts ≡ first (place_tests t.held t.numbers (intake_number c)) → car_told a ≡ own_answer ts c
         → (car_told a ≡ enter_answer ts t c) × (with_answer t (intake_number c) (measured_of c).grade a ≡ enter_train ts t c)
     unfolding own_answer enter_tests enter_answer enter_train six_figures mass
-    taken_in a z n e =
-        let h : first (admission_tests ts t c) ≡ accepts = by_train none good ∙ ap first (place_tests_lem t (intake_number c) sound) ∙ none_applies t.held t.numbers (intake_number c) z n in
+    taken_in a z e =
+        let h : first (admission_tests ts t c) ≡ accepts = by_train none good ∙ ap first (place_tests_lem t (intake_number c) sound) ∙ sym z in
         (simp (accepted-append (car_tests ts c) (admission_tests ts t c) h) e, simp h (by_answer a (first (car_tests ts c)) e))
       where
-        by_answer : (a : CarAnswer) (v : Verdict) → car_told a ≡ answer v (figures_of ts c) → with_answer t (intake_number c) (measured_of c).grade a ≡ after_by accepts v ts t c
-        by_answer (Accepted f) accepts e =
+        by_answer : (a : Result Figures Refusal) (v : Verdict) → car_told a ≡ answer v (figures_of ts c) → with_answer t (intake_number c) (measured_of c).grade a ≡ after_by accepts v ts t c
+        by_answer (Ok f) accepts e =
             let g : f.gross ≡ mass gross ts (measured_of c) = cc in
             let n : f.net ≡ mass net ts (measured_of c) = cc in
             ap₂ (λ (x y : ℕ). with_masses t (intake_number c) (shown_as (measured_of c).grade x y)) g n
-        by_answer (Accepted f) (refuses k) e = never (cc)
-        by_answer (Refused n) accepts e = never (cc)
-        by_answer (Refused n) (refuses k) e = refl
+        by_answer (Ok f) (refuses k) e = never (cc)
+        by_answer (Err r) accepts e = never (cc)
+        by_answer (Err r) (refuses k) e = refl
 
 -- 7, 8 and what 9 says of a train but for its sixty numbers, tested as one.
-module _ (ts : List Table) (t : Train) {k : ℕ} (e : k ≡ first_number (bar_tests ts t)) where
-  pub barred_away : (c : Intake) → first (before_tests c) ≡ accepts → (k ≡ 0 → ⊥) → (refusal k ≡ enter_answer ts t c) × (t ≡ enter_train ts t c)
-  barred_away c none n = go (first (tables_tests ts)) refl
+module _ (ts : List Table) (t : Train) where
+  pub barred_away : {k : ℕ} → refuses k ≡ first (bar_tests ts t) → (c : Intake) → first (before_tests c) ≡ accepts → (refusal k ≡ enter_answer ts t c) × (t ≡ enter_train ts t c)
+  barred_away {k} e c none = go (first (tables_tests ts)) refl
     where
       go : (v : Verdict) → first (tables_tests ts) ≡ v → (refusal k ≡ enter_answer ts t c) × (t ≡ enter_train ts t c)
-      go (refuses j) v = tables_away ts t c none (e ∙ ap number_of (refuses-append (refuse_if 9 (unsound t) ∷ []) (tables_tests ts) v ∙ sym v)) n
+      go (refuses j) v = tables_away ts t c none (e ∙ refuses-append (refuse_if 9 (unsound t) ∷ []) (tables_tests ts) v ∙ sym v)
       go accepts v =
-          let nine : k ≡ first_number (refuse_if 9 (unsound t) ∷ []) = e ∙ ap number_of (accepted-append (refuse_if 9 (unsound t) ∷ []) (tables_tests ts) v) in
-          let p = one_applies 9 (unsound t) (by_number (first (refuse_if 9 (unsound t) ∷ [])) nine n) in
+          let nine : refuses k ≡ first (refuse_if 9 (unsound t) ∷ []) = e ∙ accepted-append (refuse_if 9 (unsound t) ∷ []) (tables_tests ts) v in
+          let p = one_applies 9 (unsound t) (sym nine) in
           rw (← p.1) (unsound_away ts t c none v p.0)
 
-  pub barred_not : k ≡ 0 → (tables_verdict ts ≡ accepts) × SoundTrain t
-  barred_not z =
-      let p = accepted_parts (refuse_if 9 (unsound t) ∷ []) (tables_tests ts) (passed (bar_tests ts t) (numbered-append (tables_tests ts) (refuse_if 9 (unsound t) ∷ []) (tables_numbered ts) refl) e z) in
+  pub barred_not : accepts ≡ first (bar_tests ts t) → (tables_verdict ts ≡ accepts) × SoundTrain t
+  barred_not e =
+      let p = accepted_parts (refuse_if 9 (unsound t) ∷ []) (tables_tests ts) (sym e) in
       (p.0, not_sound t (not_applied 9 (refuse_if 9 (unsound t) ∷ []) p.1))
 
 -- a car is accepted only with a grade that there is
-pub graded : (ts : List Table) (c : Intake) (a : CarAnswer) → tables_verdict ts ≡ accepts → car_told a ≡ own_answer ts c → Graded (measured_of c).grade a
+pub graded : (ts : List Table) (c : Intake) (a : Result Figures Refusal) → tables_verdict ts ≡ accepts → car_told a ≡ own_answer ts c → Graded (measured_of c).grade a
 unfolding own_answer
-graded ts c (Refused n) good e = tt
-graded ts c (Accepted f) good e =
+graded ts c (Err r) good e = tt
+graded ts c (Ok f) good e =
     inside 1 grade_count (measured_of c).grade (grade_known ts (measured_of c) (passed_car c good (answer_figures (first (car_tests ts c)) e).0).early)

@@ -2,14 +2,13 @@
 use Prim.Native.Nat.{ℕ, zero, suc, ◌+◌, ◌-◌, ◌≤◌, ◌<◌}
 use mathlib.Core.Path.{◌≡◌, refl, sym, ap, ap₂, ◌∙◌}
 use mathlib.Core.Bool.{Bool, true, false, cond, not, ◌||◌, or-true, true≢false}
-use mathlib.Core.List.{List, [], ◌∷◌, ◌++◌, map, append_assoc, append-nil}
+use mathlib.Core.List.{List, [], ◌∷◌, ◌++◌, map}
 use mathlib.Core.Logic.{⊎_elim}
-use native.Mathlib.Nat.{add-zero, zero-add}
 use native.Mathlib.Numerals.{add-one}
 use native.Mathlib.Omega.{arith}
 use lib.Dec.{ltb, eqb}
-use lib.ListN.{length, get_or, set, take, drop, length-append, take-append-drop, drop_of_length-le}
-use lib.Seq.{drop-cons, take-add, take-suc, take_all, length-take-le, set_at, get_or_at, get_or-drop}
+use lib.ListN.{length, get_or, take, drop, length-append}
+use lib.Seq.{take-add, take-suc}
 use borrow.Author.Tests.{eq-eqb, ne_eqb, eqb-true, lt-ltb, le-ltb}
 use Rattle.base.specs.Numbers.{member}
 use Rattle.base.specs.Total.{selected}
@@ -106,21 +105,6 @@ member_position x (y ∷ l) = go (eqb y x) (member_position x l)
         (λ (k : length l ≤ position x l). le-ltb _ _ k ∙ sym (le-ltb (suc (position x l)) (suc (length l)) (omega arith)))
         (below (position x l) (length l))
 
--- one more number is passed
-module _ (x : ℕ) (l : List ℕ) (i : ℕ) (h : i < length l) (so : position x l ≡ i + position x (drop i l)) where
-  rest : drop i l ≡ get_or l i 0 ∷ drop (i + 1) l
-  rest = drop-cons l i 0 h ∙ ap (λ (k : ℕ). get_or l i 0 ∷ drop k l) (sym (add-one i))
-
-  pub position_hit : get_or l i 0 ≡ x → i ≡ position x l
-  position_hit e =
-      sym (so ∙ ap (λ (k : List ℕ). i + position x k) rest ∙ ap (λ (t : Bool). i + cond t 0 (suc (position x (drop (i + 1) l)))) (eq-eqb (get_or l i 0) x e) ∙ add-zero i)
-
-  pub position_miss : (get_or l i 0 ≡ x → ⊥) → position x l ≡ i + 1 + position x (drop (i + 1) l)
-  position_miss e =
-      let p : position x (drop i l) ≡ suc (position x (drop (i + 1) l)) =
-      ap (position x) rest ∙ ap (λ (t : Bool). cond t 0 (suc (position x (drop (i + 1) l)))) (ne_eqb (get_or l i 0) x e) in
-      omega (arith, so, p)
-
 -- One taken out.
 
 module _ {A : Type 0} where
@@ -163,52 +147,6 @@ module _ (k : ℕ) (l : List ℕ) (h : k < length l) where
 
   pub closed_behind : (i : ℕ) → k ≤ i → i + 1 < length l → get_or (closed k l) i 0 ≡ get_or l (suc i) 0
   closed_behind i p q = removed_behind k l (0 ∷ []) i 0 p q
-
--- One list copied over another, place by place.
-copied : (new old : List ℕ) (i : ℕ) → length new ≡ length old → i < length old
-    → set (take i new ++ drop i old) i (get_or new i 0) ≡ take (i + 1) new ++ drop (i + 1) old
-copied new old i e h =
-    ap (λ (q : List ℕ). set (take i new ++ q) i (get_or new i 0)) (drop-cons old i 0 h)
-    ∙ set_at (take i new) (get_or old i 0) (drop (suc i) old) (get_or new i 0) i (length-take-le i new (omega arith))
-    ∙ sym (ap (λ (q : List ℕ). q ++ drop (suc i) old) (take-suc new i 0 (omega arith)) ∙ append_assoc (take i new) (get_or new i 0 ∷ []) (drop (suc i) old))
-    ∙ ap (λ (k : ℕ). take k new ++ drop k old) (sym (add-one i))
-
--- the places behind k moved up one by one
-module _ (k : ℕ) (l : List ℕ) (h : k < length l) where
-  front_same : (k : ℕ) (l m : List ℕ) → k < length l → take k (remove_at k l ++ m) ≡ take k l
-  front_same k [] m h = absurd (omega arith)
-  front_same zero (a ∷ l) m h = refl
-  front_same (suc k) (a ∷ l) m h = ap (λ (q : List ℕ). a ∷ q) (front_same k l m (omega arith))
-
-  pub closing : l ≡ take k (closed k l) ++ drop k l
-  closing = sym (ap (λ (q : List ℕ). q ++ drop k l) (front_same k l (0 ∷ []) h) ∙ take-append-drop k l)
-
-  -- what is still to be moved stands in its place
-  not_moved : (m : List ℕ) (i : ℕ) → i + 1 < length l → m ≡ take i (closed k l) ++ drop i l → get_or m (i + 1) 0 ≡ get_or l (i + 1) 0
-  not_moved m i q e =
-      let n : length (take i (closed k l)) ≡ i = length-take-le i (closed k l) (omega (arith, closed-length k l h)) in
-      ap₂ (λ (x : List ℕ) (j : ℕ). get_or x (j + 1) 0) e (sym n) ∙ behind (take i (closed k l)) (drop i l) 1 ∙ get_or-drop i l 1 0
-    where
-      behind : (a b : List ℕ) (j : ℕ) → get_or (a ++ b) (length a + j) 0 ≡ get_or b j 0
-      behind [] b j = ap (λ (i : ℕ). get_or b i 0) (zero-add j)
-      behind (x ∷ a) b j = let s : suc (length a) + j ≡ suc (length a + j) = omega arith in ap (λ (i : ℕ). get_or (x ∷ (a ++ b)) i 0) s ∙ behind a b j
-
-  pub closing_next : (m : List ℕ) (i : ℕ) → k ≤ i → i + 1 < length l → m ≡ take i (closed k l) ++ drop i l
-      → set m i (get_or m (i + 1) 0) ≡ take (i + 1) (closed k l) ++ drop (i + 1) l
-  closing_next m i p q e =
-      ap₂ (λ (x : List ℕ) (n : ℕ). set x i n) e (not_moved m i q e ∙ ap (λ (j : ℕ). get_or l j 0) (add-one i) ∙ sym (closed_behind k l h i p q))
-      ∙ copied (closed k l) l i (closed-length k l h) (omega arith)
-
-  last_free : (i : ℕ) → i + 1 ≡ length l → get_or (closed k l) i 0 ≡ 0
-  last_free i e = get_or_at (remove_at k l) 0 [] 0 i (omega (arith, removed_length k l h))
-
-  pub closing_last : (m : List ℕ) (i : ℕ) → i + 1 ≡ length l → m ≡ take i (closed k l) ++ drop i l → set m i 0 ≡ closed k l
-  closing_last m i p e =
-      let full : length l ≤ i + 1 = omega arith in
-      ap₂ (λ (x : List ℕ) (n : ℕ). set x i n) e (sym (last_free i p))
-      ∙ copied (closed k l) l i (closed-length k l h) (omega arith)
-      ∙ ap₂ (λ (x y : List ℕ). x ++ y) (take_all (i + 1) (closed k l) (omega (arith, closed-length k l h))) (drop_of_length-le l full)
-      ∙ append-nil (closed k l)
 
 -- Without the number n: where no number stands twice, one place is taken out.
 

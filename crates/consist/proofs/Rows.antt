@@ -12,9 +12,10 @@ use Rattle.base.proofs.Answer.{not_applied}
 use Rattle.table.specs.Table.{Table}
 use Rattle.car.specs.Car.{Intake}
 use Rattle.consist.specs.Train.{Train, held_by, enter_answer, enter_train, strike_tests, strike_answer, position, struck_by, strike_train}
-use Rattle.consist.specs.declared.Tally.{Tally}
 use Rattle.consist.specs.Inner.{Sixty, SoundTrain}
-use Rattle.consist.specs.Lent.{tallied_train, lent_train}
+use Rattle.summing.specs.declared.Sums.{Sums}
+use Rattle.consist.specs.declared.HeldCars.{HeldCars}
+use Rattle.consist.specs.Lent.{tallied, train_in}
 use Rattle.consist.proofs.Places.{position_in}
 use Rattle.consist.proofs.Cars.{sixty_less}
 use Rattle.consist.proofs.Lent.{lent_made}
@@ -43,19 +44,19 @@ module _ (t : Train) (s : Sixty t) (sound : SoundTrain t) where
 
 -- A sound train, beside the train of its rows.
 
-module _ (t : Tally) (numbers grades grosses nets : List ℕ) (sound : SoundTrain (tallied_train t numbers grades grosses nets)) where
-  rows_are : lent_train t.held numbers grades grosses nets ≡ tallied_train t numbers grades grosses nets
-  rows_are = lent_made t numbers grades grosses nets sound.made
+module _ (sums : Sums) (cars : HeldCars) (sound : SoundTrain (tallied sums cars)) where
+  rows_are : train_in cars ≡ tallied sums cars
+  rows_are = lent_made sums cars.held cars.numbers cars.grades cars.grosses cars.nets sound.made
 
-  pub rows_sound : Sixty (tallied_train t numbers grades grosses nets) → Sixty (lent_train t.held numbers grades grosses nets) × SoundTrain (lent_train t.held numbers grades grosses nets)
-  rows_sound s = rw rows_are (s, sound)
+  pub rows_sound : SoundTrain (train_in cars)
+  rows_sound = rw rows_are sound
 
   pub rows_entered : (ts : List Table) (c : Intake) {a : Answer} {next : Train}
-      → (a ≡ enter_answer ts (lent_train t.held numbers grades grosses nets) c) × (next ≡ enter_train ts (lent_train t.held numbers grades grosses nets) c)
-      → (a ≡ enter_answer ts (tallied_train t numbers grades grosses nets) c) × (next ≡ enter_train ts (tallied_train t numbers grades grosses nets) c)
+      → (a ≡ enter_answer ts (train_in cars) c) × (next ≡ enter_train ts (train_in cars) c)
+      → (a ≡ enter_answer ts (tallied sums cars) c) × (next ≡ enter_train ts (tallied sums cars) c)
   rows_entered ts c (p, q) = (p ∙ ap (λ (u : Train). enter_answer ts u c) rows_are, q ∙ ap (λ (u : Train). enter_train ts u c) rows_are)
 
   pub rows_struck : (number : ℕ) {a : Answer} {next : Train}
-      → (a ≡ strike_answer (lent_train t.held numbers grades grosses nets) number) × (next ≡ strike_train (lent_train t.held numbers grades grosses nets) number)
-      → (a ≡ strike_answer (tallied_train t numbers grades grosses nets) number) × (next ≡ strike_train (tallied_train t numbers grades grosses nets) number)
+      → (a ≡ strike_answer (train_in cars) number) × (next ≡ strike_train (train_in cars) number)
+      → (a ≡ strike_answer (tallied sums cars) number) × (next ≡ strike_train (tallied sums cars) number)
   rows_struck number (p, q) = (p ∙ ap (λ (u : Train). strike_answer u number) rows_are, q ∙ ap (λ (u : Train). strike_train u number) rows_are)

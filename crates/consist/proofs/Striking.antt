@@ -34,5 +34,5 @@ pub taken_out : (t : Train) (k : ℕ) {ns gs xs ys : List ℕ} → Sixty t → S
     → lent_train (t.held - 1) ns gs xs ys ≡ without_at t k
 taken_out t k s sound low p q r e =
     rw (p, q, r, e)
-    (lent_made (record { sums = sums_less t.sums (car_at t k); held = t.held - 1 }) (closed k t.numbers) (closed k t.grades) (closed k t.grosses) (closed k t.nets)
+    (lent_made (sums_less t.sums (car_at t k)) (t.held - 1) (closed k t.numbers) (closed k t.grades) (closed k t.grosses) (closed k t.nets)
     (made_without t k s sound.place low sound.made))

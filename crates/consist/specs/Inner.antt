@@ -1,12 +1,12 @@
 -- What inner functions ask for and answer; it is no part of what a train means.
-use Rattle.std.specs.Prelude.{ℕ, ◌≤◌, ◌≡◌, false, List, [], ◌∷◌, ◌++◌, leb, length, take}
+use Rattle.std.specs.Prelude.{ℕ, ◌≤◌, ◌≡◌, false, List, [], ◌∷◌, ◌++◌, Result, Ok, Err, leb, length, take}
 use Rattle.base.specs.Limits.{most_cars}
 use Rattle.base.specs.Answer.{Test, refuse_if}
 use Rattle.base.specs.Numbers.{member}
 use Rattle.table.specs.Table.{Table, tables_tests}
-use Rattle.car.specs.declared.CarAnswer.{CarAnswer}
+use Rattle.base.specs.declared.refusal.Refusal.{Refusal}
+use Rattle.car.specs.declared.Figures.{Figures}
 use Rattle.car.specs.Car.{number_tests}
-use Rattle.car.specs.declared.CarAnswer.TheVariants.{Accepted, Refused}
 use Rattle.summing.specs.declared.Sums.{Sums}
 use Rattle.summing.specs.Sums.{sums_of, sums_with}
 use Rattle.summing.specs.Inner.{Sound, shown_as}
@@ -47,6 +47,6 @@ pub record Reached (t : Train) : Type 0 where
   pub is : t ≡ train_from empty_train items
 
 -- the train with a car's answer added, once no refusal up to 11 applies
-abbrev pub with_answer : Train → ℕ → ℕ → CarAnswer → Train
-with_answer t number grade (Accepted f) = with_masses t number (shown_as grade f.gross f.net)
-with_answer t number grade (Refused n) = with_number t number
+abbrev pub with_answer : Train → ℕ → ℕ → Result Figures Refusal → Train
+with_answer t number grade (Ok f) = with_masses t number (shown_as grade f.gross f.net)
+with_answer t number grade (Err r) = with_number t number

@@ -2,11 +2,15 @@
 // proofs, and no code.
 #![tactic(auto)]
 
-use summing::Sums;
+use base::MOST_CARS;
 
-// All of a train but the cars that it holds, which lie in arrays.
+// The cars that a train holds, in the first `held` places of four rows: number, grade, gross and net in kg; grade 0 is a car that was
+// refused, and has no masses.
 #[derive(Clone, Copy)]
-pub struct Tally {
-    pub sums: Sums,
+pub struct HeldCars {
     pub held: u32,
+    pub numbers: [u32; MOST_CARS],
+    pub grades: [u32; MOST_CARS],
+    pub grosses: [u32; MOST_CARS],
+    pub nets: [u32; MOST_CARS],
 }

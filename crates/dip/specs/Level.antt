@@ -3,9 +3,7 @@ use Rattle.std.specs.Prelude.{ℕ, ◌+◌, ◌-◌, ◌*◌, Bool, cond, not, �
 use Rattle.base.specs.Rounding.{rounded}
 use Rattle.base.specs.Numbers.{difference}
 use Rattle.base.specs.Limits.{tenths}
-use Rattle.base.specs.Answer.{Test, refuse_if, first, Answer, figures, refusal, answer}
-use Rattle.dip.specs.declared.MeanLevel.{MeanLevel}
-use Rattle.dip.specs.declared.MeanLevel.TheVariants.{Tenths, Refused}
+use Rattle.base.specs.Answer.{Test, refuse_if, first, Answer, answer}
 
 -- a number put in its place among numbers in rising order
 abbrev pub inserted : ℕ → List ℕ → List ℕ
@@ -71,8 +69,3 @@ readings_tests n x =
 -- the mean level by itself, which is refused where it is 0
 unfoldable pub mean_level_answer : ℕ → List ℕ → Answer
 mean_level_answer n x = answer (first (readings_tests n x ++ (refuse_if 16 (eqb (mean_level x) 0) ∷ []))) (mean_level x ∷ [])
-
--- what the code's answer says
-abbrev pub mean_level_told : MeanLevel → Answer
-mean_level_told (Tenths level) = figures (level ∷ [])
-mean_level_told (Refused n) = refusal n

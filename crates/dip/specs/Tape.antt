@@ -2,9 +2,7 @@
 use Rattle.std.specs.Prelude.{ℕ, ◌-◌, ◌*◌, ◌/◌, Bool, List, [], ◌∷◌, get_or}
 use Rattle.base.specs.Limits.{highest_level, tenths}
 use Rattle.base.specs.Numbers.{outside}
-use Rattle.base.specs.Answer.{refuse_if, first, Answer, figures, refusal, answer}
-use Rattle.dip.specs.declared.Allowance.{Allowance}
-use Rattle.dip.specs.declared.Allowance.TheVariants.{HundredthsOfMillimetre, Refused}
+use Rattle.base.specs.Answer.{refuse_if, first, Answer, answer}
 
 -- a metre of 1,000 mm
 abbrev pub metre : ℕ
@@ -24,8 +22,3 @@ off_tape level = outside tenths (tenths * highest_level) level
 
 unfoldable pub allowance_answer : ℕ → Answer
 allowance_answer level = answer (first (refuse_if 16 (off_tape level) ∷ [])) (listed level ∷ [])
-
--- what the code's answer says
-abbrev pub allowance_told : Allowance → Answer
-allowance_told (HundredthsOfMillimetre allowance) = figures (allowance ∷ [])
-allowance_told (Refused n) = refusal n

@@ -7,20 +7,14 @@ ghost use Rattle.marshalling.specs.Layout.{tables_lent, set_of, probe_fields, ca
 ghost use Rattle.export_probe.specs.Prepared.{PreparedAs};
 ghost use Rattle.trainslice.specs.Layout.{train_of, train_sized, TrainHanded};
 
-use car::Probed;
+use base::Refusal;
+use car::HandedIn;
 use marshalling::{BAD_LENGTH, PROBE_FIELDS};
-use probe_spec::{ConvertedSet, ProbeSet};
+use probe_spec::ProbeSet;
 use trainslice::TRAIN_PLACES;
 
-// A probe's car whose set is in tenths, or the refusal of its set.
-#[derive(Clone, Copy)]
-enum Prepared {
-    Probed(Probed),
-    Refused(u32),
-}
-
-// A probe's car by its seven numbers and its set. It comes before tables are copied, so that a refused set costs no copy.
-fn prepare(car: &[u32], level: f32, temperature: f32, density: f32) -> Prepared
+// A probe's car by its seven numbers and its set, which comes to tenths; or the refusal of its set.
+fn prepare(car: &[u32], level: f32, temperature: f32, density: f32) -> Result<HandedIn, Refusal>
     requires { length car.now ≡ probe_fields }
     ensures { PreparedAs result (probe_car_of car.now (set_of level temperature density)) }
 {
@@ -29,16 +23,13 @@ fn prepare(car: &[u32], level: f32, temperature: f32, density: f32) -> Prepared
         temperature,
         density,
     };
-    match probe::set_tenths(set) {
-        ConvertedSet::Refused(number) => Prepared::Refused(number),
-        ConvertedSet::Tenths(t) => {
-            let fields = marshalling::probe_car_of(car, set);
-            Prepared::Probed(working::probed_of(fields, t))
-        }
-    }
+    let t = probe::set_tenths(set)?;
+    let fields = marshalling::probe_car_of(car, set);
+    Ok(working::probed(fields, t))
 }
 
 // A probe's car worked out alone: its six figures.
+#[tactic(auto, using(marshalling::proofs::Lengths::car_right))]
 #[unsafe(no_mangle)]
 pub extern "C" fn rack_work_out_probe(
     count: u32,
@@ -57,22 +48,21 @@ pub extern "C" fn rack_work_out_probe(
         (alone_answer (tables_lent count types.now rows.now levels.now capacities.now) (probed (probe_car_of car.now (set_of level temperature density)))))
         result figures.old figures.new }
 {
-    if marshalling::car_fits(PROBE_FIELDS, types, rows, levels, capacities, car, figures) {
-        match prepare(car, level, temperature, density) {
-            Prepared::Refused(number) => return number,
-            Prepared::Probed(p) => {
-                let d = marshalling::directory_of(count, types, rows);
-                let level_places = marshalling::all_places(levels);
-                let capacity_places = marshalling::all_places(capacities);
-                let answer = train::work_probed(d, &level_places, &capacity_places, p);
-                return marshalling::hand_over(answer, figures);
-            }
-        }
+    if !marshalling::car_fits(PROBE_FIELDS, types, rows, levels, capacities, car, figures) {
+        return BAD_LENGTH;
     }
-    BAD_LENGTH
+    match prepare(car, level, temperature, density) {
+        Ok(p) => {
+            let tables = marshalling::tables_of(count, types, rows, levels, capacities);
+            let answer = train::work_handed_in(&tables, p);
+            marshalling::hand_over(answer, figures)
+        }
+        Err(refusal) => refusal.number(),
+    }
 }
 
 // A probe's car entered in a train with its tables: its six figures, and the train to hand in next.
+#[tactic(auto, using(marshalling::proofs::Lengths::car_right))]
 #[unsafe(no_mangle)]
 pub extern "C" fn rack_train_enter_probe(
     train: &mut [u32],
@@ -99,21 +89,16 @@ pub extern "C" fn rack_train_enter_probe(
     if train.len() != TRAIN_PLACES {
         return BAD_LENGTH;
     }
-    if marshalling::car_fits(PROBE_FIELDS, types, rows, levels, capacities, car, figures) {
-        match prepare(car, level, temperature, density) {
-            Prepared::Refused(number) => return number,
-            Prepared::Probed(p) => {
-                let d = marshalling::directory_of(count, types, rows);
-                let level_places = marshalling::all_places(levels);
-                let capacity_places = marshalling::all_places(capacities);
-                let running = trainslice::train_of(train);
-                let step = train::enter_probed(running, d, &level_places, &capacity_places, p);
-                let next = step.train;
-                trainslice::write_train(next, train);
-                let answer = step.answer;
-                return marshalling::hand_over(answer, figures);
-            }
-        }
+    if !marshalling::car_fits(PROBE_FIELDS, types, rows, levels, capacities, car, figures) {
+        return BAD_LENGTH;
     }
-    BAD_LENGTH
+    let p = match prepare(car, level, temperature, density) {
+        Ok(p) => p,
+        Err(refusal) => return refusal.number(),
+    };
+    let tables = marshalling::tables_of(count, types, rows, levels, capacities);
+    let mut running = trainslice::train_of(train);
+    let answer = train::enter_handed_in(&mut running, &tables, p);
+    trainslice::write_train(running.sums, &running.cars, train);
+    marshalling::hand_over(answer, figures)
 }

@@ -5,23 +5,18 @@ ghost use Rattle.marshalling.specs.Layout.{set_of};
 ghost use Rattle.export_probe.specs.Set.{set_count};
 
 use marshalling::BAD_LENGTH;
-use probe_spec::{Converted, ConvertedSet, ProbeReading, ProbeSet};
+use probe_spec::{ProbeReading, ProbeSet};
 
 // How many numbers the tenths of a set are.
 const SET: usize = 3;
 
 // A reading, whichever it is, in tenths.
+#[tactic(auto, using(marshalling::proofs::Handed::figure_handed))]
 #[unsafe(no_mangle)]
 pub extern "C" fn rack_reading_tenths(reading: f32, tenths: &mut u32) -> u32
     ensures { Handed figure_left (tenths_answer reading) result tenths.old tenths.new }
 {
-    match probe::reading_tenths(ProbeReading::Level(reading)) {
-        Converted::Tenths(n) => {
-            *tenths = n;
-            0
-        }
-        Converted::Refused(number) => number,
-    }
+    marshalling::hand_over_figure(probe::reading_tenths(ProbeReading::Level(reading)), tenths)
 }
 
 // A set in tenths: level, temperature, density.
@@ -43,12 +38,10 @@ pub extern "C" fn rack_set_tenths(
         density,
     };
     match probe::set_tenths(set) {
-        ConvertedSet::Tenths(t) => {
-            let d = t.density;
-            let three = [t.level, t.temperature, d.0];
-            marshalling::copy(&three, tenths);
+        Ok(t) => {
+            tenths.copy_from_slice(&[t.level, t.temperature, t.density.0]);
             0
         }
-        ConvertedSet::Refused(number) => number,
+        Err(refusal) => refusal.number(),
     }
 }

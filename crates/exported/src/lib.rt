@@ -12,6 +12,9 @@ pub extern "C" fn rack_answer_sheet(text: &[u8], out: &mut [u8], number: &mut u3
         × (out.new ≡ after_answer text.now out.old) }
 {
     let reply = listing::answer_sheet(text, out);
-    *number = reply.number;
+    *number = match reply.refusal {
+        Some(refusal) => refusal.number(),
+        None => 0,
+    };
     reply.length
 }

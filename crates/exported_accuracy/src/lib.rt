@@ -6,14 +6,13 @@ ghost use Rattle.accuracy.specs.Permitted.{errors_of};
 ghost use Rattle.reading.specs.Letter.{most_fields};
 ghost use Rattle.marshalling.specs.Layout.{tables_lent, permitted_sized, PermittedHanded};
 
-use marshalling::{
-    BAD_LENGTH, all_places, car_of, directory_of, errors_of, hand_over_limit, permitted_fits,
-};
+use marshalling::{BAD_LENGTH, errors_of, hand_over_limit, permitted_fits, tables_of};
 use reading::MOST_FIELDS;
 
 mod probed; // probed.rt: the permitted error of a probe's car
 
 // The limit of the permitted error beside the six figures of a car alone.
+#[tactic(auto, using(marshalling::proofs::Lengths::permitted_lengths))]
 #[unsafe(no_mangle)]
 pub extern "C" fn rack_permitted_error(
     count: u32,
@@ -30,7 +29,7 @@ pub extern "C" fn rack_permitted_error(
         (tables_lent count types.now rows.now levels.now capacities.now) (dipped (car_of car.now)) (errors_of errors.now)
         result figures.old figures.new }
 {
-    if permitted_fits(
+    if !permitted_fits(
         MOST_FIELDS,
         types,
         rows,
@@ -40,13 +39,11 @@ pub extern "C" fn rack_permitted_error(
         errors,
         figures,
     ) {
-        let given = errors_of(errors);
-        let fields = car_of(car);
-        let d = directory_of(count, types, rows);
-        let level_places = all_places(levels);
-        let capacity_places = all_places(capacities);
-        let answer = permitting::permitted_error(d, &level_places, &capacity_places, fields, given);
-        return hand_over_limit(answer, figures);
+        return BAD_LENGTH;
     }
-    BAD_LENGTH
+    let given = errors_of(errors);
+    let fields = working::car_of(car);
+    let tables = tables_of(count, types, rows, levels, capacities);
+    let answer = permitting::permitted_error(&tables, fields, given);
+    hand_over_limit(answer, figures)
 }

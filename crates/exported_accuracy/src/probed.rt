@@ -13,6 +13,7 @@ use marshalling::{BAD_LENGTH, PROBE_FIELDS};
 use probe_spec::ProbeSet;
 
 // The limit of the permitted error beside the six figures of a probe's car alone.
+#[tactic(auto, using(marshalling::proofs::Lengths::permitted_lengths))]
 #[unsafe(no_mangle)]
 pub extern "C" fn rack_permitted_error_probe(
     count: u32,
@@ -32,7 +33,7 @@ pub extern "C" fn rack_permitted_error_probe(
         (tables_lent count types.now rows.now levels.now capacities.now) (probed (probe_car_of car.now (set_of level temperature density))) (errors_of errors.now)
         result figures.old figures.new }
 {
-    if marshalling::permitted_fits(
+    if !marshalling::permitted_fits(
         PROBE_FIELDS,
         types,
         rows,
@@ -42,24 +43,16 @@ pub extern "C" fn rack_permitted_error_probe(
         errors,
         figures,
     ) {
-        let given = marshalling::errors_of(errors);
-        let set = ProbeSet {
-            level,
-            temperature,
-            density,
-        };
-        let fields = marshalling::probe_car_of(car, set);
-        let d = marshalling::directory_of(count, types, rows);
-        let level_places = marshalling::all_places(levels);
-        let capacity_places = marshalling::all_places(capacities);
-        let answer = permitting::permitted_error_probe(
-            d,
-            &level_places,
-            &capacity_places,
-            fields,
-            given,
-        );
-        return marshalling::hand_over_limit(answer, figures);
+        return BAD_LENGTH;
     }
-    BAD_LENGTH
+    let given = marshalling::errors_of(errors);
+    let set = ProbeSet {
+        level,
+        temperature,
+        density,
+    };
+    let fields = marshalling::probe_car_of(car, set);
+    let tables = marshalling::tables_of(count, types, rows, levels, capacities);
+    let answer = permitting::permitted_error_probe(&tables, fields, given);
+    marshalling::hand_over_limit(answer, figures)
 }

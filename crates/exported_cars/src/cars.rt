@@ -11,10 +11,10 @@ ghost use Rattle.reading.specs.Letter.{most_fields};
 use marshalling::BAD_LENGTH;
 use reading::MOST_FIELDS;
 use train::Train;
-use train_strike::StrikeAnswer;
 use trainslice::TRAIN_PLACES;
 
 // A car worked out alone: its six figures.
+#[tactic(auto, using(marshalling::proofs::Lengths::car_right))]
 #[unsafe(no_mangle)]
 pub extern "C" fn rack_work_out(
     count: u32,
@@ -30,14 +30,12 @@ pub extern "C" fn rack_work_out(
         (alone_answer (tables_lent count types.now rows.now levels.now capacities.now) (dipped (car_of car.now))))
         result figures.old figures.new }
 {
-    if marshalling::car_fits(MOST_FIELDS, types, rows, levels, capacities, car, figures) {
-        let d = marshalling::directory_of(count, types, rows);
-        let level_places = marshalling::all_places(levels);
-        let capacity_places = marshalling::all_places(capacities);
-        let answer = train::work_out(d, &level_places, &capacity_places, marshalling::car_of(car));
-        return marshalling::hand_over(answer, figures);
+    if !marshalling::car_fits(MOST_FIELDS, types, rows, levels, capacities, car, figures) {
+        return BAD_LENGTH;
     }
-    BAD_LENGTH
+    let tables = marshalling::tables_of(count, types, rows, levels, capacities);
+    let answer = train::work_out(&tables, working::car_of(car));
+    marshalling::hand_over(answer, figures)
 }
 
 // The empty train.
@@ -48,11 +46,13 @@ pub extern "C" fn rack_train_empty(train: &mut [u32]) -> u32
     if train.len() != TRAIN_PLACES {
         return BAD_LENGTH;
     }
-    trainslice::write_train(Train::empty(), train);
+    let empty = Train::empty();
+    trainslice::write_train(empty.sums, &empty.cars, train);
     0
 }
 
 // A car entered in a train with its tables: its six figures, and the train to hand in with the next.
+#[tactic(auto, using(marshalling::proofs::Lengths::car_right))]
 #[unsafe(no_mangle)]
 pub extern "C" fn rack_train_enter(
     train: &mut [u32],
@@ -76,18 +76,18 @@ pub extern "C" fn rack_train_enter(
     if train.len() != TRAIN_PLACES {
         return BAD_LENGTH;
     }
-    if marshalling::car_fits(MOST_FIELDS, types, rows, levels, capacities, car, figures) {
-        let d = marshalling::directory_of(count, types, rows);
-        let level_places = marshalling::all_places(levels);
-        let capacity_places = marshalling::all_places(capacities);
-        let running = trainslice::train_of(train);
-        let step = running.enter(d, &level_places, &capacity_places, marshalling::car_of(car));
-        let next = step.train;
-        trainslice::write_train(next, train);
-        let answer = step.answer;
-        return marshalling::hand_over(answer, figures);
+    if !marshalling::car_fits(MOST_FIELDS, types, rows, levels, capacities, car, figures) {
+        return BAD_LENGTH;
     }
-    BAD_LENGTH
+    let tables = marshalling::tables_of(count, types, rows, levels, capacities);
+    let mut running = trainslice::train_of(train);
+    let answer = train::enter_handed_in(
+        &mut running,
+        &tables,
+        working::dipped(working::car_of(car)),
+    );
+    trainslice::write_train(running.sums, &running.cars, train);
+    marshalling::hand_over(answer, figures)
 }
 
 // A number struck in a train: 0 where its car is taken out, and the train to hand in next.
@@ -100,12 +100,10 @@ pub extern "C" fn rack_train_strike(train: &mut [u32], number: u32) -> u32
         return BAD_LENGTH;
     }
     let running = trainslice::train_of(train);
-    let step = running.strike(number);
-    let next = step.train;
-    trainslice::write_train(next, train);
-    let answer = step.answer;
-    match answer {
-        StrikeAnswer::Struck(_) => 0,
-        StrikeAnswer::Refused(refusal) => refusal,
+    let struck = running.strike(number);
+    trainslice::write_train(struck.train.sums, &struck.train.cars, train);
+    match struck.answer {
+        Ok(_) => 0,
+        Err(refusal) => refusal.number(),
     }
 }

@@ -5,10 +5,10 @@ ghost use Rattle.marshalling.specs.Handed.{number_handed, sized, figure_left, Ha
 ghost use Rattle.marshalling.specs.Layout.{tables_lent, tables_sized};
 ghost use Rattle.exported_cars.specs.Lengths.{tables_answer};
 
-use gauging::Volume;
 use marshalling::BAD_LENGTH;
 
 // 7 or 8, or 0 where neither applies.
+#[tactic(auto, using(marshalling::proofs::Lengths::tables_right))]
 #[unsafe(no_mangle)]
 pub extern "C" fn rack_check_tables(
     count: u32,
@@ -21,16 +21,18 @@ pub extern "C" fn rack_check_tables(
         (tables_sized types.now rows.now levels.now capacities.now)
         (tables_answer (tables_lent count types.now rows.now levels.now capacities.now))) }
 {
-    if marshalling::tables_fit(types, rows, levels, capacities) {
-        let d = marshalling::directory_of(count, types, rows);
-        let level_places = marshalling::all_places(levels);
-        let capacity_places = marshalling::all_places(capacities);
-        return tabletests::check_tables(d, &level_places, &capacity_places);
+    if !marshalling::tables_fit(types, rows, levels, capacities) {
+        return BAD_LENGTH;
     }
-    BAD_LENGTH
+    let tables = marshalling::tables_of(count, types, rows, levels, capacities);
+    match tabletests::check_tables(&tables) {
+        Ok(()) => 0,
+        Err(refusal) => refusal.number(),
+    }
 }
 
 // V0, in 0.01 dm³, between a water level, in mm, and a mean level, in tenths of a mm, on the table of a type.
+#[tactic(auto, using(marshalling::proofs::Lengths::tables_right, marshalling::proofs::Handed::figure_handed))]
 #[unsafe(no_mangle)]
 pub extern "C" fn rack_checked_volume(
     count: u32,
@@ -48,17 +50,10 @@ pub extern "C" fn rack_checked_volume(
         (volume_answer (tables_lent count types.now rows.now levels.now capacities.now) kind mean water))
         result volume.old volume.new }
 {
-    if marshalling::tables_fit(types, rows, levels, capacities) {
-        let d = marshalling::directory_of(count, types, rows);
-        let level_places = marshalling::all_places(levels);
-        let capacity_places = marshalling::all_places(capacities);
-        match capacity::checked_volume(d, &level_places, &capacity_places, kind, mean, water) {
-            Volume::Hundredths(figure) => {
-                *volume = figure;
-                return 0;
-            }
-            Volume::Refused(number) => return number,
-        }
+    if !marshalling::tables_fit(types, rows, levels, capacities) {
+        return BAD_LENGTH;
     }
-    BAD_LENGTH
+    let tables = marshalling::tables_of(count, types, rows, levels, capacities);
+    let answer = capacity::checked_volume(&tables, kind, mean, water);
+    marshalling::hand_over_figure(answer, volume)
 }

@@ -4,7 +4,7 @@
 ghost use Rattle.laboratory.specs.Nearest.{report_of};
 ghost use Rattle.exported_laboratory.specs.Layout.{ReportHanded};
 
-use laboratory::{DensityAt15, Report};
+use laboratory::Report;
 
 // The density at 15 °C that comes nearest to a reported density; both in 0.1 kg/m³, the laboratory's temperature in 0.1 °C.
 #[unsafe(no_mangle)]
@@ -16,10 +16,10 @@ pub extern "C" fn rack_density_at_15(reported: u32, temperature: u32, density: &
         temperature,
     };
     match reducing::density_at_15(report) {
-        DensityAt15::Density(figure) => {
+        Ok(figure) => {
             *density = figure.0;
             0
         }
-        DensityAt15::Refused(number) => number,
+        Err(refusal) => refusal.number(),
     }
 }

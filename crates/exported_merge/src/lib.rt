@@ -14,8 +14,16 @@ pub extern "C" fn rack_merge_sheets(
 ) -> usize
     ensures { Merges first.now second.now out.old (record { length = result; number = number.new; line = line.new }) out.new }
 {
-    let reply = merge::merge_sheets(first, second, out);
-    *number = reply.number;
-    *line = reply.line;
-    reply.length
+    match merge::merge_sheets(first, second, out) {
+        Ok(length) => {
+            *number = 0;
+            *line = 0;
+            length
+        }
+        Err(why) => {
+            *number = why.refusal.number();
+            *line = why.line;
+            0
+        }
+    }
 }

@@ -3,15 +3,14 @@ use Prim.Native.Nat.{ℕ}
 use mathlib.Core.Path.{◌≡◌}
 use mathlib.Core.Bool.{Bool, true, cond}
 use mathlib.Core.List.{List}
+use Rattle.std.specs.Prelude.{Option, Some, None}
 use Rattle.base.specs.Answer.{refusal}
 use Rattle.reading.specs.declared.letter.Letter.{Letter}
-use Rattle.reading.specs.declared.Found.{Found}
-use Rattle.reading.specs.declared.Found.TheVariants.{Is, Nothing}
 use Rattle.line.specs.Writing.{write_answer, after_write}
 use Rattle.marshalling.specs.Handed.{bad_letter, sized}
 use Rattle.exported_parts.specs.Lines.{line_with, write_answer_by, after_write_by}
 
-module _ {found : Found} {letter : Letter} {fields numbers : List ℕ} {right : Bool} (e : found ≡ Is letter) (copied : fields ≡ numbers) (r : right ≡ true) where
+module _ {found : Option Letter} {letter : Letter} {fields numbers : List ℕ} {right : Bool} (e : found ≡ Some letter) (copied : fields ≡ numbers) (r : right ≡ true) where
   pub answer_by : (room : ℕ) → write_answer (line_with letter fields) 0 room ≡ sized right (write_answer_by found numbers room)
   answer_by room = cc
 
@@ -19,7 +18,7 @@ module _ {found : Found} {letter : Letter} {fields numbers : List ℕ} {right : 
   after_by_lem lent = cc
 
 -- no letter
-module _ {found : Found} {right : Bool} (numbers : List ℕ) (e : found ≡ Nothing) (r : right ≡ true) where
+module _ {found : Option Letter} {right : Bool} (numbers : List ℕ) (e : found ≡ None) (r : right ≡ true) where
   pub answer_none : (room : ℕ) → refusal bad_letter ≡ sized right (write_answer_by found numbers room)
   answer_none room = cc
 

@@ -7,9 +7,8 @@ ghost use Rattle.line.specs.Alone.{read_line};
 ghost use Rattle.marshalling.specs.Handed.{length_is, sized, figure_left, Handed};
 ghost use Rattle.exported_parts.specs.Lines.{letter_named, numbers_left, write_answer_by, after_write_by};
 
-use line::Written;
 use marshalling::BAD_LENGTH;
-use reading::{Found, Letter, Line, MOST_FIELDS, Reading};
+use reading::{Letter, Line, MOST_FIELDS};
 
 // A byte is no letter of a sheet or of an answer.
 const BAD_LETTER: u32 = 1_001;
@@ -23,55 +22,34 @@ pub extern "C" fn rack_read_line(text: &[u8], letter: &mut u8, numbers: &mut [u3
     if numbers.len() != MOST_FIELDS {
         return BAD_LENGTH;
     }
-    let read = lettering::read_line(text);
-    let reading = read.reading;
-    match reading {
-        Reading::Read(found) => {
-            *letter = scanning::byte_of(found);
-            let fields = read.numbers;
-            marshalling::copy(&fields, numbers);
+    match lettering::read_line(text) {
+        Ok(line) => {
+            *letter = u8::from(line.letter);
+            numbers.copy_from_slice(&line.numbers);
             0
         }
-        Reading::Refused(number) => number,
+        Err(refusal) => refusal.number(),
     }
 }
 
 // The letter whose byte is b, of a sheet or of an answer.
 #[tactic(auto, using(base::proofs::Tests::tests), unfolding(crate::specs::Lines::letter_named))]
-fn letter_named(b: u8) -> Found
+fn letter_named(b: u8) -> Option<Letter>
     ensures { result ≡ letter_named b }
 {
-    if b == b'T' {
-        return Found::Is(Letter::Table);
+    match b {
+        b'T' => Some(Letter::Table),
+        b'R' => Some(Letter::Row),
+        b'C' => Some(Letter::Car),
+        b'K' => Some(Letter::Strike),
+        b'E' => Some(Letter::End),
+        b'A' => Some(Letter::CarAccepted),
+        b'X' => Some(Letter::CarRefused),
+        b'S' => Some(Letter::Totals),
+        b'G' => Some(Letter::GradeTotals),
+        b'Z' => Some(Letter::SheetRefused),
+        _ => None,
     }
-    if b == b'R' {
-        return Found::Is(Letter::Row);
-    }
-    if b == b'C' {
-        return Found::Is(Letter::Car);
-    }
-    if b == b'K' {
-        return Found::Is(Letter::Strike);
-    }
-    if b == b'E' {
-        return Found::Is(Letter::End);
-    }
-    if b == b'A' {
-        return Found::Is(Letter::CarAccepted);
-    }
-    if b == b'X' {
-        return Found::Is(Letter::CarRefused);
-    }
-    if b == b'S' {
-        return Found::Is(Letter::Totals);
-    }
-    if b == b'G' {
-        return Found::Is(Letter::GradeTotals);
-    }
-    if b == b'Z' {
-        return Found::Is(Letter::SheetRefused);
-    }
-    Found::Nothing
 }
 
 // A line written from the buffer's start: its length in bytes. Places that the letter does not use are not looked at.
@@ -85,25 +63,12 @@ pub extern "C" fn rack_write_line(
     ensures { Handed figure_left (sized (length_is most_fields numbers.now) (write_answer_by (letter_named letter) numbers.now (length out.old))) result written.old written.new
         × (out.new ≡ cond (length_is most_fields numbers.now) (after_write_by (letter_named letter) numbers.now out.old) out.old) }
 {
-    if numbers.len() != MOST_FIELDS {
+    let Ok(numbers) = <[u32; MOST_FIELDS]>::try_from(numbers) else {
         return BAD_LENGTH;
-    }
-    let mut fields = [0u32; MOST_FIELDS];
-    marshalling::copy(numbers, &mut fields);
-    match letter_named(letter) {
-        Found::Nothing => BAD_LETTER,
-        Found::Is(named) => {
-            let line = Line {
-                letter: named,
-                numbers: fields,
-            };
-            match lettering::write_line(out, line) {
-                Written::Length(figure) => {
-                    *written = figure;
-                    0
-                }
-                Written::Refused(number) => number,
-            }
-        }
-    }
+    };
+    let Some(letter) = letter_named(letter) else {
+        return BAD_LETTER;
+    };
+    let line = Line { letter, numbers };
+    marshalling::hand_over_figure(lettering::write_line(out, line), written)
 }

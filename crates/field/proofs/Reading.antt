@@ -2,6 +2,7 @@
 use Prim.Native.Nat.{ℕ, zero, suc, ◌+◌, ◌≤◌, ◌<◌}
 use mathlib.Core.Path.{◌≡◌, refl, ap, sym, ◌∙◌}
 use mathlib.Core.Logic.{⊎_elim}
+use Rattle.std.specs.Prelude.{None, Some}
 use mathlib.Core.List.{List}
 use native.Mathlib.Omega.{arith}
 use native.Mathlib.Numerals.{add-one}
@@ -9,7 +10,6 @@ use lib.ListN.{length, get_or, get_or-eq_default}
 use Rattle.base.proofs.Choice.{below, cond_same}
 use Rattle.field.specs.declared.Seen.{Seen}
 use Rattle.field.specs.declared.Seen.TheVariants.{Blank, Digits, Broken}
-use Rattle.field.specs.declared.Field.TheVariants.{Number, NotNumber}
 use Rattle.field.specs.Field.{columns, column_of, seen_to, finish, field_at}
 
 -- no column holds byte 0
@@ -19,7 +19,7 @@ zero_broken (Digits v) = simp cond_same
 zero_broken Broken = refl
 
 -- a field that runs past the end is no number
-pub past : (s : List ℕ) (at : ℕ) → length s < at + columns → field_at s at ≡ NotNumber
+pub past : (s : List ℕ) (at : ℕ) → length s < at + columns → field_at s at ≡ None
 unfolding field_at seen_to
 past s at h =
     ap finish
@@ -40,12 +40,12 @@ broken_stays s at i (suc k) h e =
     (λ (l : suc k ≤ i). let p : i ≡ suc k = omega arith in ap (λ (j : ℕ). seen_to s at j) (sym p) ∙ e)
     (below i (suc k))
 
-pub no_feed : (s : List ℕ) (at n i : ℕ) → field_at s at ≡ Number n → i < columns → get_or s (at + i) 0 ≡ 10 → ⊥
+pub no_feed : (s : List ℕ) (at n i : ℕ) → field_at s at ≡ Some n → i < columns → get_or s (at + i) 0 ≡ 10 → ⊥
 unfolding field_at seen_to
 no_feed s at n i f h e =
     let b : seen_to s at (suc i) ≡ Broken = ap (λ (x : ℕ). column_of (seen_to s at i) x) e ∙ ten_broken (seen_to s at i) in
     let w : seen_to s at 9 ≡ Broken = broken_stays s at (suc i) 9 (omega arith) b in
-    let q : NotNumber ≡ Number n = sym (ap finish w) ∙ f in
+    let q : None ≡ Some n = sym (ap finish w) ∙ f in
     let z : ◌≡◌ {A = ℕ} 0 1 = cc in
     omega arith
 

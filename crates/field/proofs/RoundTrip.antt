@@ -5,6 +5,7 @@ use mathlib.Core.Bool.{false, cond}
 use mathlib.Core.Logic.{◌⊎◌, inl, inr, ⊎_elim}
 use mathlib.Core.List.{List, [], ◌∷◌, ◌++◌}
 use native.Mathlib.Nat.{pow-suc}
+use Rattle.std.specs.Prelude.{Some}
 use native.Mathlib.Omega.{arith}
 use lib.ListN.{length, get_or, take, drop, length-drop}
 use lib.Seq.{take-suc, take_at, take-take, get_or_at, get_or-take, get_or-drop}
@@ -14,7 +15,6 @@ use Rattle.base.specs.Limits.{largest}
 use Rattle.base.proofs.Choice.{below, same, never}
 use Rattle.field.specs.declared.Seen.{Seen}
 use Rattle.field.specs.declared.Seen.TheVariants.{Blank, Digits, Broken}
-use Rattle.field.specs.declared.Field.TheVariants.{Number}
 use Rattle.field.specs.Field.{columns, column_of, if_digit, seen_to, finish, field_at, glyph_of, justified, field_of}
 use Rattle.field.proofs.Reading.{past}
 use Rattle.field.proofs.Writing.{length_justified}
@@ -68,7 +68,7 @@ read_justified s at (suc k) m p h e =
     ∙ glyph_more m h
 
 -- what is written for n reads as n
-pub read_written : (s : List ℕ) (at n : ℕ) → n ≤ largest → take columns (drop at s) ≡ field_of n → field_at s at ≡ Number n
+pub read_written : (s : List ℕ) (at n : ℕ) → n ≤ largest → take columns (drop at s) ≡ field_of n → field_at s at ≡ Some n
 unfolding field_at field_of seen_of seen_to
 read_written s at n h e =
     let c = last_column s at 8 (48 + n % 10) (justified 8 (n / 10)) (length_justified 8 (n / 10)) e in
@@ -180,13 +180,13 @@ pub record IsField (s : List ℕ) (at n : ℕ) : Type 0 where
   pub bytes : take columns (drop at s) ≡ field_of n
   pub small : n ≤ largest
 
-from_number : (x : Seen) (n : ℕ) → finish x ≡ Number n → x ≡ Digits n
+from_number : (x : Seen) (n : ℕ) → finish x ≡ Some n → x ≡ Digits n
 from_number Blank n e = never (cc)
 from_number (Digits v) n e = cc
 from_number Broken n e = never (cc)
 
 -- what reads as n is what is written for n
-pub written_read : (s : List ℕ) (at n : ℕ) → field_at s at ≡ Number n → IsField s at n
+pub written_read : (s : List ℕ) (at n : ℕ) → field_at s at ≡ Some n → IsField s at n
 unfolding field_at field_of Before seen_to
 written_read s at n e =
     ⊎_elim

@@ -1,11 +1,9 @@
 -- A field of a line: nine columns, a number of one to eight digits with spaces before it, no leading zero except 0 itself.
-use Rattle.std.specs.Prelude.{ℕ, zero, suc, ◌+◌, ◌-◌, ◌*◌, ◌/◌, ◌%◌, Bool, false, cond, List, [], ◌∷◌, ◌++◌, length, get_or, leb, ltb, eqb}
+use Rattle.std.specs.Prelude.{ℕ, Option, Some, None, zero, suc, ◌+◌, ◌-◌, ◌*◌, ◌/◌, ◌%◌, Bool, false, cond, List, [], ◌∷◌, ◌++◌, length, get_or, leb, ltb, eqb}
 use Rattle.base.specs.Buffer.{put}
 use Rattle.base.specs.Limits.{largest}
 use Rattle.field.specs.declared.Seen.{Seen}
 use Rattle.field.specs.declared.Seen.TheVariants.{Blank, Digits, Broken}
-use Rattle.field.specs.declared.Field.{Field}
-use Rattle.field.specs.declared.Field.TheVariants.{Number, NotNumber}
 
 -- how many columns, each of one byte
 abbrev pub columns : ℕ
@@ -28,13 +26,13 @@ unfoldable pub seen_to : List ℕ → ℕ → ℕ → Seen
 seen_to s at zero = Blank
 seen_to s at (suc k) = column_of (seen_to s at k) (get_or s (at + k) 0)
 
-abbrev pub finish : Seen → Field
-finish Blank = NotNumber
-finish (Digits v) = Number v
-finish Broken = NotNumber
+abbrev pub finish : Seen → Option ℕ
+finish Blank = None
+finish (Digits v) = Some v
+finish Broken = None
 
 -- the field whose columns start at `at`
-unfoldable pub field_at : List ℕ → ℕ → Field
+unfoldable pub field_at : List ℕ → ℕ → Option ℕ
 field_at s at = finish (seen_to s at columns)
 
 -- Writing.

@@ -23,70 +23,34 @@ pub enum Seen {
     Broken,
 }
 
-// What a field holds.
-#[derive(Clone, Copy)]
-pub enum Field {
-    Number(u32),
-    NotNumber,
-}
-
 // What is seen once one more column is passed.
 fn column(seen: Seen, b: u8) -> Seen
     ensures { result ≡ column_of seen b }
 {
-    match seen {
-        Seen::Blank => {
-            if b == 32 {
-                return Seen::Blank;
-            }
-            if b < 48 {
-                return Seen::Broken;
-            }
-            if 57 < b {
-                return Seen::Broken;
-            }
-            Seen::Digits((b - 48) as u32)
+    match (seen, b) {
+        (Seen::Blank, b' ') => Seen::Blank,
+        (Seen::Blank, b'0'..=b'9') => Seen::Digits(u32::from(b - b'0')),
+        (Seen::Digits(v), b'0'..=b'9') if v != 0 && v <= SEVEN_DIGITS => {
+            Seen::Digits(10 * v + u32::from(b - b'0'))
         }
-        Seen::Digits(v) => {
-            if v == 0 {
-                return Seen::Broken;
-            }
-            if SEVEN_DIGITS < v {
-                return Seen::Broken;
-            }
-            if b < 48 {
-                return Seen::Broken;
-            }
-            if 57 < b {
-                return Seen::Broken;
-            }
-            Seen::Digits(10 * v + (b - 48) as u32)
-        }
-        Seen::Broken => Seen::Broken,
+        _ => Seen::Broken,
     }
 }
 
 // The field whose first column is at `at`. A field that runs past the end of s is no number.
-pub fn read_field(s: &[u8], at: usize) -> Field
+pub fn read_field(s: &[u8], at: usize) -> Option<u32>
     ensures { result ≡ field_at s.now at }
 {
-    if s.len() < COLUMNS {
-        return Field::NotNumber;
-    }
-    if s.len() - COLUMNS < at {
-        return Field::NotNumber;
+    if s.len() < COLUMNS || s.len() - COLUMNS < at {
+        return None;
     }
     let mut seen = Seen::Blank;
-    let mut i: usize = 0;
-    while i < COLUMNS {
-        let b = s[at + i];
+    for &b in &s[at..at + COLUMNS] {
         seen = column(seen, b);
-        i += 1;
     }
     match seen {
-        Seen::Digits(n) => Field::Number(n),
-        Seen::Blank => Field::NotNumber,
-        Seen::Broken => Field::NotNumber,
+        Seen::Digits(n) => Some(n),
+        Seen::Blank | Seen::Broken => None,
     }
 }
 
@@ -94,7 +58,7 @@ pub fn read_field(s: &[u8], at: usize) -> Field
 fn glyph(n: u32) -> u8
     ensures { result ≡ glyph_of n }
 {
-    if n == 0 { 32 } else { 48 + (n % 10) as u8 }
+    if n == 0 { b' ' } else { b'0' + (n % 10) as u8 }
 }
 
 // Writes n's field from `at` on, the last digit first.
@@ -102,11 +66,9 @@ fn put_field(out: &mut [u8], at: usize, n: u32)
     requires { at + columns ≤ length out.old }
     ensures { out.new ≡ put out.old at (field_of n) }
 {
-    out[at + LAST] = 48 + (n % 10) as u8;
+    out[at + LAST] = b'0' + (n % 10) as u8;
     let mut rest = n / 10;
-    let mut i: usize = LAST;
-    while 0 < i {
-        i -= 1;
+    for i in (0..LAST).rev() {
         out[at + i] = glyph(rest);
         rest /= 10;
     }
@@ -117,13 +79,7 @@ fn put_field(out: &mut [u8], at: usize, n: u32)
 pub fn write_field(out: &mut [u8], at: usize, n: u32) -> bool
     ensures { (result ≡ field_fits n at (length out.old)) × (out.new ≡ after_field n at out.old) }
 {
-    if LARGEST < n {
-        return false;
-    }
-    if out.len() < COLUMNS {
-        return false;
-    }
-    if out.len() - COLUMNS < at {
+    if LARGEST < n || out.len() < COLUMNS || out.len() - COLUMNS < at {
         return false;
     }
     put_field(out, at, n);

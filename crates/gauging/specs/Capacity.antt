@@ -3,10 +3,8 @@
 use Rattle.std.specs.Prelude.{ℕ, ◌+◌, ◌-◌, ◌*◌, Bool, cond, ◌||◌, List, [], ◌∷◌, ◌++◌, ltb, leb, eqb}
 use Rattle.base.specs.Limits.{in_tenths}
 use Rattle.base.specs.Rounding.{rounded}
-use Rattle.base.specs.Answer.{Test, refuse_if, first, Answer, figures, refusal, answer}
+use Rattle.base.specs.Answer.{Test, refuse_if, first, Answer, answer}
 use Rattle.table.specs.Table.{Row, row_of, Table, unknown, rows_of, last_level, tables_tests}
-use Rattle.gauging.specs.declared.Volume.{Volume}
-use Rattle.gauging.specs.declared.Volume.TheVariants.{Hundredths, Refused}
 
 -- two rows, one above the other
 pub record Gap : Type 0 where
@@ -78,8 +76,3 @@ volume_on ts kind mean water = answer (first (volume_tests ts kind mean water)) 
 unfoldable pub volume_answer : List Table → ℕ → ℕ → ℕ → Answer
 volume_answer ts kind mean water =
     answer (first (tables_tests ts ++ volume_tests ts kind mean water)) (v0 (rows_of kind ts) mean water ∷ [])
-
--- what a volume's answer tells
-abbrev pub volume_told : Volume → Answer
-volume_told (Hundredths v) = figures (v ∷ [])
-volume_told (Refused n) = refusal n

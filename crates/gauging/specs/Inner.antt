@@ -1,12 +1,12 @@
 -- What inner functions ask for; it is no part of what a capacity or a volume means.
-use Rattle.std.specs.Prelude.{ℕ, ◌+◌, ◌≤◌, ◌<◌, ◌≡◌, false, List, [], ◌∷◌, get_or}
+use Rattle.std.specs.Prelude.{ℕ, ◌+◌, ◌≤◌, ◌<◌, ◌≡◌, false, List, [], ◌∷◌, get_or, Result, Ok}
 use Rattle.base.specs.Limits.{tenths, in_tenths}
-use Rattle.base.specs.Answer.{Answer, figures, refusal, first, answer}
+use Rattle.base.specs.Answer.{Answer, first, answer}
+use Rattle.base.specs.Refusal.{told}
+use Rattle.base.specs.declared.refusal.Refusal.{Refusal}
 use Rattle.table.specs.Table.{Table, row_of, rows_of, later_row_bad}
 use Rattle.gauging.specs.Capacity.{Gap, rows_around, reach_tests}
 use Rattle.gauging.specs.declared.Neighbours.{Neighbours}
-use Rattle.gauging.specs.declared.Around.{Around}
-use Rattle.gauging.specs.declared.Around.TheVariants.{Rows, Refused}
 
 -- the least whole mm that reaches a level: the level is at most `inTenths h` exactly where mm is at most h
 pub record Reaches (level mm : ℕ) : Type 0 where
@@ -41,11 +41,11 @@ gap_numbers g = g.low.level ∷ g.low.capacity ∷ g.high.level ∷ g.high.capac
 abbrev pub around_answer : List Table → ℕ → ℕ → Answer
 around_answer ts kind level = answer (first (reach_tests ts kind level)) (gap_numbers (rows_around (rows_of kind ts) level))
 
-abbrev pub around_told : Around → Answer
-around_told (Rows n) = figures (gap_numbers (gap_of n))
-around_told (Refused n) = refusal n
+-- what a result of the code says of them
+abbrev pub around_told : Result Neighbours Refusal → Answer
+around_told = told (λ n. gap_numbers (gap_of n))
 
 -- what the search for them hands back
-pub record RowsFound (ts : List Table) (kind level : ℕ) (r : Around) : Type 0 where
+pub record RowsFound (ts : List Table) (kind level : ℕ) (r : Result Neighbours Refusal) : Type 0 where
   pub told : around_told r ≡ around_answer ts kind level
-  pub between : (n : Neighbours) → r ≡ Rows n → Between (gap_of n) level
+  pub between : (n : Neighbours) → r ≡ Ok n → Between (gap_of n) level

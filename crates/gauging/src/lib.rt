@@ -2,13 +2,6 @@
 // and proofs, and no code.
 #![tactic(auto)]
 
-// A volume in 0.01 dm³, or the refusal.
-#[derive(Clone, Copy)]
-pub enum Volume {
-    Hundredths(u32),
-    Refused(u32),
-}
-
 // Two neighbouring rows of a table: levels in mm, capacities in dm³.
 #[derive(Clone, Copy)]
 pub struct Neighbours {
@@ -16,11 +9,4 @@ pub struct Neighbours {
     pub low_capacity: u32,
     pub high_level: u32,
     pub high_capacity: u32,
-}
-
-// The rows around a level, or the refusal.
-#[derive(Clone, Copy)]
-pub enum Around {
-    Rows(Neighbours),
-    Refused(u32),
 }

@@ -1,7 +1,7 @@
-// The grades' limits in constant tables, and refusals 13 and 18 to 21 by their numbers: each function gives its number, or 0.
+// The grades' limits in constant tables, and the tests of refusals 13 and 18 to 21.
 ghost use Rattle.std.specs.Prelude.{◌≡◌, ◌||◌, [], ◌∷◌, ltb};
-ghost use Rattle.base.specs.Answer.{refuse_if, first_number};
-ghost use Rattle.heating.specs.Inner.{Known};
+ghost use Rattle.base.specs.Answer.{refuse_if, first};
+ghost use Rattle.base.specs.Refusal.{verdict_told};
 ghost use Rattle.grading.specs.Grades.{
   by_grade,
   grade_tests,
@@ -13,7 +13,7 @@ ghost use Rattle.grading.specs.Grades.{
   range_tests,
 };
 
-use base::GRADES;
+use base::{GRADES, Refusal};
 use heating::{Density15, Oil};
 use thermal::HIGHEST_TEMPERATURE;
 
@@ -34,40 +34,33 @@ const CONTENT: u32 = 100;
 fn by_grade(limits: [u32; GRADES], grade: u32) -> u32
     ensures { result ≡ by_grade limits grade }
 {
-    if grade < 1 {
+    if grade < 1 || 4 < grade {
         return 0;
     }
-    if 4 < grade {
-        return 0;
-    }
-    let i = (grade - 1) as usize;
-    limits[i]
+    limits[(grade - 1) as usize]
 }
 
 // 13 for a grade.
-pub(crate) fn grade_refusal(grade: u32) -> u32
-    ensures { result ≡ first_number (grade_tests grade) }
+pub(crate) fn check_grade(grade: u32) -> Result<(), Refusal>
+    ensures { verdict_told result ≡ first (grade_tests grade) }
 {
-    thermal::outside_refusal(13, 1, 4, grade)
+    thermal::check_within(Refusal::GradeOrStick, 1, 4, grade)
 }
 
 // 13 for a grade and a stick.
-pub fn code_refusal(grade: u32, stick: u32) -> u32
-    ensures { result ≡ first_number (code_tests grade stick) }
+pub fn check_code(grade: u32, stick: u32) -> Result<(), Refusal>
+    ensures { verdict_told result ≡ first (code_tests grade stick) }
 {
-    let by_grade = grade_refusal(grade);
-    if by_grade != 0 {
-        return by_grade;
-    }
-    thermal::outside_refusal(13, 1, 2, stick)
+    check_grade(grade)?;
+    thermal::check_within(Refusal::GradeOrStick, 1, 2, stick)
 }
 
 // 18 for a grade's temperature in 0.1 °C.
-fn temperature_refusal(grade: u32, temperature: u32) -> u32
-    ensures { result ≡ first_number (temperature_tests grade temperature) }
+fn check_temperature(grade: u32, temperature: u32) -> Result<(), Refusal>
+    ensures { verdict_told result ≡ first (temperature_tests grade temperature) }
 {
-    thermal::outside_refusal(
-        18,
+    thermal::check_within(
+        Refusal::Temperature,
         by_grade(LOWEST_TEMPERATURES, grade),
         HIGHEST_TEMPERATURE,
         temperature,
@@ -75,23 +68,25 @@ fn temperature_refusal(grade: u32, temperature: u32) -> u32
 }
 
 // 20, with limits for water and for impurities, all in 0.01 %.
-fn above_limits(water_limit: u32, impurity_limit: u32, water: u32, impurities: u32) -> u32
-    ensures { result ≡ first_number (refuse_if 20 (ltb water_limit water || ltb impurity_limit impurities) ∷ []) }
+fn check_limits(
+    water_limit: u32,
+    impurity_limit: u32,
+    water: u32,
+    impurities: u32,
+) -> Result<(), Refusal>
+    ensures { verdict_told result ≡ first (refuse_if 20 (ltb water_limit water || ltb impurity_limit impurities) ∷ []) }
 {
-    if water_limit < water {
-        return 20;
+    if water_limit < water || impurity_limit < impurities {
+        return Err(Refusal::Content);
     }
-    if impurity_limit < impurities {
-        return 20;
-    }
-    0
+    Ok(())
 }
 
 // 20 for a grade's water and impurities.
-pub(crate) fn content_refusal(grade: u32, water: u32, impurities: u32) -> u32
-    ensures { result ≡ first_number (content_tests grade water impurities) }
+pub(crate) fn check_content(grade: u32, water: u32, impurities: u32) -> Result<(), Refusal>
+    ensures { verdict_told result ≡ first (content_tests grade water impurities) }
 {
-    above_limits(
+    check_limits(
         by_grade(WATER, grade),
         by_grade(IMPURITIES, grade),
         water,
@@ -100,49 +95,37 @@ pub(crate) fn content_refusal(grade: u32, water: u32, impurities: u32) -> u32
 }
 
 // 20 for water and impurities without a grade.
-pub(crate) fn content_refusal_any_grade(water: u32, impurities: u32) -> u32
-    ensures { result ≡ first_number (content_tests_any_grade water impurities) }
+pub(crate) fn check_content_any_grade(water: u32, impurities: u32) -> Result<(), Refusal>
+    ensures { verdict_told result ≡ first (content_tests_any_grade water impurities) }
 {
-    above_limits(CONTENT, CONTENT, water, impurities)
+    check_limits(CONTENT, CONTENT, water, impurities)
 }
 
 // 21 for a grade and an oil.
-pub fn density_20_refusal(grade: u32, oil: Oil) -> u32
-    requires { Known oil }
-    ensures { result ≡ first_number (density20_tests grade oil.density.0) }
+pub fn check_density_20(grade: u32, oil: Oil) -> Result<(), Refusal>
+    ensures { verdict_told result ≡ first (density20_tests grade oil.density.0) }
 {
-    if grade < 1 {
-        return 0;
+    if grade < 1 || 2 < grade {
+        return Ok(());
     }
-    if 2 < grade {
-        return 0;
+    let limit = DENSITY_20[(grade - 1) as usize];
+    if limit < thermal::density_20(oil).0 {
+        return Err(Refusal::Density20);
     }
-    let i = (grade - 1) as usize;
-    let limit = DENSITY_20[i];
-    let at_20 = thermal::density_20(oil);
-    if limit < at_20.0 {
-        return 21;
-    }
-    0
+    Ok(())
 }
 
 // The first of 18 to 20, of a car's oil: temperature in 0.1 °C, density at 15 °C, water and impurities in 0.01 %.
-pub fn range_refusal(
+pub fn check_range(
     grade: u32,
     temperature: u32,
     density: Density15,
     water: u32,
     impurities: u32,
-) -> u32
-    ensures { result ≡ first_number (range_tests grade temperature density.0 water impurities) }
+) -> Result<(), Refusal>
+    ensures { verdict_told result ≡ first (range_tests grade temperature density.0 water impurities) }
 {
-    let by_temperature = temperature_refusal(grade, temperature);
-    if by_temperature != 0 {
-        return by_temperature;
-    }
-    let by_density = thermal::density_refusal(density);
-    if by_density != 0 {
-        return by_density;
-    }
-    content_refusal(grade, water, impurities)
+    check_temperature(grade, temperature)?;
+    thermal::check_density(density)?;
+    check_content(grade, water, impurities)
 }

@@ -4,6 +4,7 @@ use mathlib.Core.Path.{◌≡◌, refl, ap, ap₂, sym, ◌∙◌}
 use mathlib.Core.Bool.{true, false, cond, ◌&&◌, ◌||◌}
 use mathlib.Core.List.{List, [], ◌∷◌, ◌++◌, map, append_assoc, append-nil}
 use mathlib.Core.Logic.{⊎_elim}
+use Rattle.std.specs.Prelude.{Some}
 use native.Mathlib.Omega.{arith}
 use lib.Dec.{ltb, leb, eqb}
 use lib.ListN.{length, take, drop, length-append, length-drop}
@@ -16,10 +17,8 @@ use Rattle.base.proofs.Lists.{map-append}
 use Rattle.base.proofs.Numbers.{inside}
 use Rattle.reading.specs.declared.letter.Letter.TheVariants.{Car as C, Strike as K, End as E}
 use Rattle.reading.specs.declared.letter.Line.{Line}
-use Rattle.reading.specs.declared.Found.TheVariants.{Is}
-use Rattle.reading.specs.declared.Reading.TheVariants.{Read}
 use Rattle.reading.specs.Letter.{byte_of, count_of, width_of, most_fields}
-use Rattle.reading.specs.Reading.{letter_of}
+use Rattle.reading.specs.Reading.{letter_of, filled}
 use Rattle.line.specs.Writing.{line_of, small_to}
 use Rattle.line.specs.RoundTrip.{read_as}
 use Rattle.line.proofs.Bytes.{length_line_of}
@@ -72,8 +71,12 @@ row_good : (rows : List Row) (row : Row) (todo : List Row) → first (rows_tests
 row_good [] row todo e = (passing 8 (first_row_bad row) _ e).0
 row_good (before ∷ rows) row todo e = later_good before rows row todo (passing 8 (first_row_bad before) _ e).1
 
+-- the numbers that a line is read with
+abbrev read_numbers : Line → List ℕ
+read_numbers l = filled (take (count_of l.letter) l.numbers) (count_of l.letter)
+
 -- the fourteen numbers of a C line, as reading gives them
-car_read : (car : List ℕ) → CarNumbers car → (read_as (c_line car)).numbers ≡ car
+car_read : (car : List ℕ) → CarNumbers car → read_numbers (c_line car) ≡ car
 car_read car h = append-nil (take most_fields (car ++ [])) ∙ ap (λ (x : List ℕ). take most_fields x) (append-nil car) ∙ take_all most_fields car (omega (arith, h.fourteen))
 
 -- Where the reading of s stands: before the lines `more` and the bytes `tail`, with tables and history of which the last table lacks `owed` rows. The lines from
@@ -93,7 +96,7 @@ module _ (s tail : List ℕ) (end : ℕ) where
 
   -- a line that may come next
   module _ (owed : ℕ) (ts : List Table) (history : List TrainLine) (l : Line) (more : List Line) (a : At owed ts history (l ∷ more)) (fits : Fits l)
-      (due : letter_of (byte_of l.letter) (due_by owed (length ts) (cars_in history + strikes_in history)) ≡ Is l.letter) where
+      (due : letter_of (byte_of l.letter) (due_by owed (length ts) (cars_in history + strikes_in history)) ≡ Some l.letter) where
     rest_here : drop a.at s ≡ line_of l ++ (text_of more ++ tail)
     unfolding text_of
     rest_here = a.rest ∙ append_assoc (line_of l) (text_of more) tail
@@ -101,11 +104,11 @@ module _ (s tail : List ℕ) (end : ℕ) where
     bytes : take (width_of l.letter) (drop a.at s) ≡ line_of l
     bytes = ap (λ (x : List ℕ). take (width_of l.letter) x) rest_here ∙ take_at (line_of l) (text_of more ++ tail) (width_of l.letter) (length_line_of l fits.fourteen)
 
-    read_on : by_letter (length s) (here a) l.letter (read_as l).numbers ≡ step_of s (here a)
-    read_on = step_read s (here a) (read_as l) (sym (bytes_read s a.at (due_of (here a)) l due fits.small fits.fourteen bytes)) (Read l.letter) refl
+    read_on : by_letter (length s) (here a) l.letter (read_numbers l) ≡ step_of s (here a)
+    read_on = step_read s (here a) (read_as l) (sym (bytes_read s a.at (due_of (here a)) l due fits.small fits.fourteen bytes))
 
     -- it is taken, and the reading goes on behind it
-    go_on : (owed' : ℕ) (ts' : List Table) (history' : List TrainLine) → past l.letter (here a) owed' ts' (cars_in history') (strikes_in history') history' ≡ by_letter (length s) (here a) l.letter (read_as l).numbers
+    go_on : (owed' : ℕ) (ts' : List Table) (history' : List TrainLine) → past l.letter (here a) owed' ts' (cars_in history') (strikes_in history') history' ≡ by_letter (length s) (here a) l.letter (read_numbers l)
         → At owed' ts' history' more
     go_on owed' ts' history' e =
         let w = went_on s (here a) (past l.letter (here a) owed' ts' (cars_in history') (strikes_in history') history') (e ∙ read_on) a.sound _ refl in
@@ -122,7 +125,7 @@ module _ (s tail : List ℕ) (end : ℕ) where
         }
 
     -- or it ends the reading
-    end_on : (r : SheetRead) → over (here a) r ≡ by_letter (length s) (here a) l.letter (read_as l).numbers → read_from s start ≡ r
+    end_on : (r : SheetRead) → over (here a) r ≡ by_letter (length s) (here a) l.letter (read_numbers l) → read_from s start ≡ r
     end_on r e = sym a.same ∙ sym (is_over s (here a) (over (here a) r) (e ∙ read_on) a.sound (here a) r refl)
 
   -- Tables.

@@ -4,6 +4,7 @@ use mathlib.Core.Path.{◌≡◌, refl, ap, ap₂, sym, ◌∙◌}
 use mathlib.Core.Bool.{Bool, true, false, cond, not}
 use mathlib.Core.List.{List, [], ◌∷◌}
 use mathlib.Core.Logic.{⊎_elim}
+use Rattle.std.specs.Prelude.{Option, Some, None, Result, Ok, Err}
 use native.Mathlib.Nat.{add-zero}
 use native.Mathlib.Omega.{arith}
 use lib.Dec.{ltb, leb, eqb}
@@ -11,21 +12,19 @@ use lib.ListN.{length, get_or, drop, replicate, length-drop}
 use lib.Seq.{get_or-drop}
 use borrow.Author.Tests.{lt-ltb, le-ltb, eq-eqb, ne_eqb, not-true}
 use Rattle.base.specs.Answer.{Verdict, refuses, first}
+use Rattle.base.specs.declared.refusal.Refusal.{Refusal}
+use Rattle.base.specs.declared.refusal.Refusal.TheVariants.{NoLine, LineLength, NotNumber}
+use Rattle.base.specs.Refusal.{refusal_number}
 use Rattle.base.specs.Limits.{most_car_lines, most_strikes}
 use Rattle.base.proofs.Choice.{below, same}
 use Rattle.base.proofs.Answer.{one_applies}
-use Rattle.field.specs.declared.Field.{Field}
 use Rattle.field.specs.Field.{columns, column_of, seen_to, finish, field_at}
 use Rattle.reading.specs.declared.letter.Letter.{Letter}
 use Rattle.reading.specs.declared.letter.Letter.TheVariants.{Table as T, Row as R, Car as C, Strike as K, End as E}
+use Rattle.reading.specs.declared.letter.Line.{Line}
 use Rattle.reading.specs.declared.Due.{Due}
-use Rattle.reading.specs.declared.Found.{Found}
-use Rattle.reading.specs.declared.Found.TheVariants.{Is, Nothing}
-use Rattle.reading.specs.declared.Reading.{Reading}
-use Rattle.reading.specs.declared.Reading.TheVariants.{Read, Refused}
-use Rattle.reading.specs.declared.LineRead.{LineRead}
 use Rattle.reading.specs.Letter.{count_of, width_of, most_fields}
-use Rattle.reading.specs.Reading.{letter_of, feed, feed_at, is_number, field_value, good, values, filled, refused_line, line_by, line_at, row_only}
+use Rattle.reading.specs.Reading.{letter_of, feed, feed_at, is_number, field_value, good, values, filled, line_by, line_at, row_only}
 use Rattle.reading.proofs.Letters.{found}
 use Rattle.reading.proofs.Fields.{value_at}
 use Rattle.reading.proofs.Lines.{IsLine, is_line}
@@ -55,7 +54,7 @@ field_rest s at k =
 good_rest : (s : List ℕ) (at k : ℕ) → good s (at + 1) k ≡ good (drop at s) 1 k
 unfolding good
 good_rest s at zero = refl
-good_rest s at (suc k) = ap₂ (λ (a : Bool) (f : Field). cond a (is_number f) false) (good_rest s at k) (field_rest s at k)
+good_rest s at (suc k) = ap₂ (λ (a : Bool) (f : Option ℕ). cond a (is_number f) false) (good_rest s at k) (field_rest s at k)
 
 feed_rest : (s : List ℕ) (at : ℕ) → ltb (feed_at s at) (length s) ≡ ltb (feed (drop at s)) (length (drop at s))
 unfolding feed_at
@@ -120,39 +119,42 @@ module _ (s : List ℕ) (st : State) where
   abbrev rest : List ℕ
   rest = drop st.at s
 
-  -- the verdict on the line due, by what reading it gave
-  abbrev pub verdict_of : Reading → Verdict
-  verdict_of (Read l) = first (number_faults st.tables st.history rest l)
-  verdict_of (Refused n) = refuses n
+  -- the verdict on the line due, by its letter and by what reading it gave
+  abbrev pub letter_verdict : Letter → Verdict
+  letter_verdict l = first (number_faults st.tables st.history rest l)
 
-  by_letter_lem : (b : Bool) (f : Found)
-      → cond (not b) (refuses 3) (first (letter_faults st.tables st.history rest f)) ≡ verdict_of (cond b (line_by s st.at (feed_at s st.at) f) (refused_line 3)).reading
+  abbrev pub verdict_of : Result Line Refusal → Verdict
+  verdict_of (Ok line) = letter_verdict line.letter
+  verdict_of (Err r) = refuses (refusal_number r)
+
+  by_letter_lem : (b : Bool) (f : Option Letter)
+      → cond (not b) (refuses 3) (first (letter_faults st.tables st.history rest f)) ≡ verdict_of (cond b (line_by s st.at (feed_at s st.at) f) (Err NoLine))
   unfolding line_by
   by_letter_lem false f = refl
-  by_letter_lem true Nothing = refl
-  by_letter_lem true (Is l) =
+  by_letter_lem true None = refl
+  by_letter_lem true (Some l) =
       by_fields (eqb (feed rest + 1) (width_of l)) (good rest 1 (count_of l))
-      ∙ sym (ap₂ (λ (a g : Bool). verdict_of (cond a (cond g line (refused_line 6)) (refused_line 5)).reading) (width_rest s st.at (count_of l)) (good_rest s st.at (count_of l)))
+      ∙ sym (ap₂ (λ (a g : Bool). verdict_of (cond a (cond g line (Err NotNumber)) (Err LineLength))) (width_rest s st.at (count_of l)) (good_rest s st.at (count_of l)))
     where
-      line : LineRead
-      line = record { reading = Read l; numbers = filled (values s (st.at + 1) (count_of l)) (count_of l) }
+      line : Result Line Refusal
+      line = Ok (record { letter = l; numbers = filled (values s (st.at + 1) (count_of l)) (count_of l) })
 
-      by_fields : (a g : Bool) → cond (not a) (refuses 5) (cond (not g) (refuses 6) (verdict_of (Read l))) ≡ verdict_of (cond a (cond g line (refused_line 6)) (refused_line 5)).reading
+      by_fields : (a g : Bool) → cond (not a) (refuses 5) (cond (not g) (refuses 6) (letter_verdict l)) ≡ verdict_of (cond a (cond g line (Err NotNumber)) (Err LineLength))
       by_fields true true = refl
       by_fields true false = refl
       by_fields false g = refl
 
   pub line_verdict : Counted st → (0 < length st.history → 0 < length st.tables)
-      → first (line_faults st.tables st.owed st.history rest) ≡ verdict_of (line_at s st.at (due_of st)).reading
+      → first (line_faults st.tables st.owed st.history rest) ≡ verdict_of (line_at s st.at (due_of st))
   unfolding line_at
   line_verdict counted h =
-      let letter : Found = letter_in (get_or rest 0 0) (may_come st.tables st.owed st.history) in
+      let letter : Option Letter = letter_in (get_or rest 0 0) (may_come st.tables st.owed st.history) in
       let found : letter_of (get_or s st.at 0) (due_of st) ≡ letter =
       ap (λ (n : ℕ). letter_of (get_or s st.at 0) (due_by st.owed (length st.tables) n)) (ap₂ (λ (a b : ℕ). a + b) counted.cars counted.struck ∙ lines_all st.history)
       ∙ letters_due (get_or s st.at 0) st.tables st.owed st.history h
       ∙ ap (λ (b : ℕ). letter_in b (may_come st.tables st.owed st.history)) (ap (λ (i : ℕ). get_or s i 0) (sym (add-zero st.at)) ∙ sym (get_or-drop st.at s 0 0)) in
       by_letter_lem (ltb (feed rest) (length rest)) letter
-      ∙ sym (ap₂ (λ (b : Bool) (f : Found). verdict_of (cond b (line_by s st.at (feed_at s st.at) f) (refused_line 3)).reading) (feed_rest s st.at) found)
+      ∙ sym (ap₂ (λ (b : Bool) (f : Option Letter). verdict_of (cond b (line_by s st.at (feed_at s st.at) f) (Err NoLine))) (feed_rest s st.at) found)
 
   -- the numbers of a line that was read
   pub numbers_are : {l : Letter} {ns : List ℕ} → IsLine s st.at (due_of st) l ns → (j : ℕ) → j < count_of l → get_or ns j 0 ≡ number_in rest j
@@ -163,9 +165,9 @@ module _ (s : List ℕ) (st : State) where
 
   -- The line is refused where a test applies.
 
-  letter_refused : Counted st → (l : Letter) (ns : List ℕ) {k : ℕ} → IsLine s st.at (due_of st) l ns → verdict_of (Read l) ≡ refuses k → refused_here st k ≡ by_letter (length s) st l ns
+  letter_refused : Counted st → (l : Letter) (ns : List ℕ) {k : ℕ} → IsLine s st.at (due_of st) l ns → letter_verdict l ≡ refuses k → refused_here st k ≡ by_letter (length s) st l ns
   letter_refused counted l ns {k} h =
-      found (λ m. IsLine s st.at (due_of st) m ns → verdict_of (Read m) ≡ refuses k → refused_here st k ≡ by_letter (length s) st m ns) (get_or s st.at 0) l (due_of st) (
+      found (λ m. IsLine s st.at (due_of st) m ns → letter_verdict m ≡ refuses k → refused_here st k ≡ by_letter (length s) st m ns) (get_or s st.at 0) l (due_of st) (
         (λ _ _ h v.
             let p = one_applies 7 _ v in
             ap (refused_here st) (sym p.1)
@@ -193,13 +195,13 @@ module _ (s : List ℕ) (st : State) where
 
   pub step_refused : Counted st → (0 < length st.history → 0 < length st.tables) → {k : ℕ} → first (line_faults st.tables st.owed st.history rest) ≡ refuses k
       → refused_here st k ≡ step_of s st
-  step_refused counted h {k} f = go (line_at s st.at (due_of st)).reading refl
+  step_refused counted h {k} f = go (line_at s st.at (due_of st)) refl
     where
-      go : (x : Reading) → (line_at s st.at (due_of st)).reading ≡ x → refused_here st k ≡ step_of s st
-      go (Read l) e =
-          letter_refused counted l (line_at s st.at (due_of st)).numbers (is_line s st.at (due_of st) l e) (ap verdict_of (sym e) ∙ sym (line_verdict counted h) ∙ f)
-          ∙ step_read s st (line_at s st.at (due_of st)) refl (Read l) e
-      go (Refused n) e =
-          let v : refuses n ≡ refuses k = ap verdict_of (sym e) ∙ sym (line_verdict counted h) ∙ f in
-          let same : n ≡ k = cc in
-          ap (refused_here st) (sym same) ∙ step_read s st (line_at s st.at (due_of st)) refl (Refused n) e
+      go : (x : Result Line Refusal) → line_at s st.at (due_of st) ≡ x → refused_here st k ≡ step_of s st
+      go (Ok line) e =
+          letter_refused counted line.letter line.numbers (is_line s st.at (due_of st) line e) (ap verdict_of (sym e) ∙ sym (line_verdict counted h) ∙ f)
+          ∙ step_read s st (Ok line) (sym e)
+      go (Err n) e =
+          let v : refuses (refusal_number n) ≡ refuses k = ap verdict_of (sym e) ∙ sym (line_verdict counted h) ∙ f in
+          let same : refusal_number n ≡ k = cc in
+          ap (refused_here st) (sym same) ∙ step_read s st (Err n) (sym e)

@@ -5,6 +5,7 @@ use mathlib.Core.Path.{◌≡◌, refl, ap, ap₂, sym, ◌∙◌}
 use mathlib.Core.Bool.{Bool, true, cond, not}
 use mathlib.Core.List.{List, [], ◌∷◌, ◌++◌, map, append_assoc, append-nil}
 use mathlib.Core.Logic.{⊎_elim}
+use Rattle.std.specs.Prelude.{Result, Ok, Err}
 use native.Mathlib.Nat.{add-zero, zero-add}
 use native.Mathlib.Omega.{arith}
 use lib.Dec.{ltb, leb, eqb}
@@ -12,14 +13,13 @@ use lib.ListN.{length, get_or, take, drop, length-append, length-drop, take-appe
 use lib.Seq.{take-add, take_all}
 use borrow.Author.Tests.{eqb-true, eqb-false, ltb-true, ltb-false}
 use Rattle.base.specs.Answer.{accepts, refuses, first}
+use Rattle.base.specs.declared.refusal.Refusal.{Refusal as Number}
 use Rattle.base.specs.Limits.{most_car_lines, most_strikes}
 use Rattle.base.proofs.Choice.{below, cond_either}
 use Rattle.base.proofs.Lists.{map-append}
 use Rattle.reading.specs.declared.letter.Letter.{Letter}
 use Rattle.reading.specs.declared.letter.Letter.TheVariants.{Table as T, Row as R, Car as C, Strike as K, End as E}
 use Rattle.reading.specs.declared.letter.Line.{Line}
-use Rattle.reading.specs.declared.Reading.{Reading}
-use Rattle.reading.specs.declared.Reading.TheVariants.{Read, Refused}
 use Rattle.reading.specs.Letter.{width_of}
 use Rattle.reading.specs.Reading.{values, line_at}
 use Rattle.reading.proofs.Letters.{found}
@@ -36,7 +36,7 @@ use Rattle.grammar.proofs.Rules.{lines_all}
 use Rattle.grammar.proofs.Text.{text_snoc, begun_all}
 use Rattle.grammar.proofs.Steps.{both_last, settled, lacking, some_tables, whole_good, After, after_step}
 use Rattle.grammar.proofs.Turns.{sound_start, start_recorded}
-use Rattle.grammar.proofs.Faults.{verdict_of, line_verdict, numbers_are}
+use Rattle.grammar.proofs.Faults.{letter_verdict, verdict_of, line_verdict, numbers_are}
 
 -- One more line of a beginning.
 
@@ -132,7 +132,7 @@ module _ (s : List ℕ) (st : State) (sound : SoundState (length s) st) (told : 
   module _ (ns : List ℕ) where
     -- the tests 3 to 6 pass, and leave it to those of the letter
     abbrev ByNumbers : Letter → Type 0
-    ByNumbers l = first (line_faults st.tables st.owed st.history (drop st.at s)) ≡ verdict_of s st (Read l)
+    ByNumbers l = first (line_faults st.tables st.owed st.history (drop st.at s)) ≡ letter_verdict s st l
 
     told_table : (due_of st).table ≡ true → ByNumbers T → IsLine s st.at (due_of st) T ns → Goes s (table_line st (get_or ns 0 0) (get_or ns 1 0))
     unfolding table_line values
@@ -216,14 +216,14 @@ module _ (s : List ℕ) (st : State) (sound : SoundState (length s) st) (told : 
 
   told_step : Goes s (step_of s st)
   unfolding step_of
-  told_step = go (line_at s st.at (due_of st)).reading refl
+  told_step = go (line_at s st.at (due_of st)) refl
     where
-      verdict : (r : Reading) → (line_at s st.at (due_of st)).reading ≡ r → first (line_faults st.tables st.owed st.history (drop st.at s)) ≡ verdict_of s st r
+      verdict : (r : Result Line Number) → line_at s st.at (due_of st) ≡ r → first (line_faults st.tables st.owed st.history (drop st.at s)) ≡ verdict_of s st r
       verdict r e = line_verdict s st told.recorded.counted (λ o. (told.behind o).1) ∙ ap (verdict_of s st) e
 
-      go : (r : Reading) → (line_at s st.at (due_of st)).reading ≡ r → Goes s (by_reading (length s) st r (line_at s st.at (due_of st)).numbers)
-      go (Read l) e = told_letter (line_at s st.at (due_of st)).numbers l (verdict (Read l) e) (is_line s st.at (due_of st) l e)
-      go (Refused n) e = at_fault (verdict (Refused n) e)
+      go : (r : Result Line Number) → line_at s st.at (due_of st) ≡ r → Goes s (by_reading (length s) st r)
+      go (Ok line) e = told_letter line.numbers line.letter (verdict (Ok line) e) (is_line s st.at (due_of st) line e)
+      go (Err n) e = at_fault (verdict (Err n) e)
 
 -- One line, and the rest.
 

@@ -4,22 +4,22 @@ use mathlib.Core.Path.{◌≡◌, refl, ap, sym, ◌∙◌}
 use mathlib.Core.Bool.{Bool, true, false, ◌&&◌, not, true≢false}
 use mathlib.Core.List.{List, [], ◌∷◌}
 use native.Mathlib.Omega.{arith}
+use Rattle.std.specs.Prelude.{Option, Some, None, Result, Ok, Err}
 use lib.Dec.{ltb, leb, eqb}
 use lib.ListN.{length, get_or, length-append}
 use borrow.Author.Tests.{leb-true, leb-false, eqb-true, eqb-false, not-true}
+use Rattle.base.specs.declared.refusal.Refusal.{Refusal}
+use Rattle.base.specs.declared.refusal.Refusal.TheVariants.{NoLine, WrongLetter, LineLength, NotNumber}
+use Rattle.base.specs.Refusal.{refusal_number}
 use Rattle.base.specs.Limits.{largest, most_car_lines, most_strikes}
 use Rattle.base.proofs.Choice.{both, never, cond_either}
 use Rattle.base.proofs.Lists.{each_append}
 use Rattle.reading.specs.declared.letter.Letter.{Letter}
 use Rattle.reading.specs.declared.letter.Letter.TheVariants.{Table as T, Row as R, Car as C, Strike as K, End as E}
+use Rattle.reading.specs.declared.letter.Line.{Line}
 use Rattle.reading.specs.declared.Due.{Due}
-use Rattle.reading.specs.declared.Found.{Found}
-use Rattle.reading.specs.declared.Found.TheVariants.{Is, Nothing}
-use Rattle.reading.specs.declared.Reading.{Reading}
-use Rattle.reading.specs.declared.Reading.TheVariants.{Read, Refused}
-use Rattle.reading.specs.declared.LineRead.{LineRead}
 use Rattle.reading.specs.Letter.{count_of, width_of, most_fields}
-use Rattle.reading.specs.Reading.{letter_of, feed_at, good, values, refused_line, line_by, line_at}
+use Rattle.reading.specs.Reading.{letter_of, feed_at, good, values, line_by, line_at}
 use Rattle.reading.proofs.Letters.{found}
 use Rattle.reading.proofs.Fields.{length_values}
 use Rattle.reading.proofs.Lines.{IsLine, is_line}
@@ -56,39 +56,37 @@ some_tables owed (t ∷ ts) behind e = omega arith
 
 -- The line due, by what reading it gave.
 
-module _ (s : List ℕ) (st : State) (r : LineRead) (er : r ≡ line_at s st.at (due_of st)) where
-  pub step_read : (x : Reading) → r.reading ≡ x → by_reading (length s) st x r.numbers ≡ step_of s st
+module _ (s : List ℕ) (st : State) (r : Result Line Refusal) (er : r ≡ line_at s st.at (due_of st)) where
+  pub step_read : by_reading (length s) st r ≡ step_of s st
   unfolding step_of
-  step_read x e =
-      ap (λ (y : Reading). by_reading (length s) st y r.numbers) (sym e)
-      ∙ ap (λ (y : LineRead). by_reading (length s) st y.reading y.numbers) er
+  step_read = ap (by_reading (length s) st) er
 
-  pub row_owed : r.reading ≡ Read R → 0 < st.owed
-  row_owed e =
-      found (λ l. l ≡ R → 0 < st.owed) (get_or s st.at 0) R (due_of st)
+  pub row_owed : (line : Line) → r ≡ Ok line → line.letter ≡ R → 0 < st.owed
+  row_owed line e =
+      found (λ l. l ≡ R → 0 < st.owed) (get_or s st.at 0) line.letter (due_of st)
       ((λ _ _ q. never (cc)), ((λ _ d _. lacking st.owed d), ((λ _ _ q. never (cc)), ((λ _ _ q. never (cc)), ((λ _ _ q. never (cc)), tt)))))
-      (is_line s st.at (due_of st) R (ap (λ (y : LineRead). y.reading) (sym er) ∙ e)).found refl
+      (is_line s st.at (due_of st) line (sym er ∙ e)).found
 
 -- A line that is refused is so by 3 to 6.
 
-abbrev Early : LineRead → Type 0
-Early r = (n : ℕ) → r.reading ≡ Refused n → (3 ≤ n) × (n ≤ 6)
+abbrev Early : Result Line Refusal → Type 0
+Early r = (n : Refusal) → r ≡ Err n → (3 ≤ refusal_number n) × (refusal_number n ≤ 6)
 
-early : (m : ℕ) → 3 ≤ m → m ≤ 6 → Early (refused_line m)
-early m a b n e = let same : m ≡ n = cc in (omega arith, omega arith)
+early : (m : Refusal) → 3 ≤ refusal_number m → refusal_number m ≤ 6 → Early (Err m)
+early m a b n e = let same : m ≡ n = cc in rw (← same) (a, b)
 
-early_by : (s : List ℕ) (at end : ℕ) (f : Found) → Early (line_by s at end f)
+early_by : (s : List ℕ) (at end : ℕ) (f : Option Letter) → Early (line_by s at end f)
 unfolding line_by
-early_by s at end Nothing = early 4 (omega arith) (omega arith)
-early_by s at end (Is l) =
+early_by s at end None = early WrongLetter (omega arith) (omega arith)
+early_by s at end (Some l) =
     cond_either Early (eqb (end - at) (1 + 9 * count_of l)) _ _
-    (λ _. cond_either Early (good s (at + 1) (count_of l)) _ _ (λ _ n e. never (cc)) (λ _. early 6 (omega arith) (omega arith)))
-    (λ _. early 5 (omega arith) (omega arith))
+    (λ _. cond_either Early (good s (at + 1) (count_of l)) _ _ (λ _ n e. never (cc)) (λ _. early NotNumber (omega arith) (omega arith)))
+    (λ _. early LineLength (omega arith) (omega arith))
 
 early_line : (s : List ℕ) (at : ℕ) (due : Due) → Early (line_at s at due)
 unfolding line_at
 early_line s at due =
-    cond_either Early (ltb (feed_at s at) (length s)) _ _ (λ _. early_by s at (feed_at s at) (letter_of (get_or s at 0) due)) (λ _. early 3 (omega arith) (omega arith))
+    cond_either Early (ltb (feed_at s at) (length s)) _ _ (λ _. early_by s at (feed_at s at) (letter_of (get_or s at 0) due)) (λ _. early NoLine (omega arith) (omega arith))
 
 -- After a line.
 
@@ -226,8 +224,8 @@ module _ (s : List ℕ) (st : State) (sound : SoundState (length s) st) where
 
   pub after_step : After (length s) st (step_of s st)
   unfolding step_of
-  after_step = go (line_at s st.at (due_of st)).reading refl
+  after_step = go (line_at s st.at (due_of st)) refl
     where
-      go : (r : Reading) → (line_at s st.at (due_of st)).reading ≡ r → After (length s) st (by_reading (length s) st r (line_at s st.at (due_of st)).numbers)
-      go (Read l) e = after_letter (line_at s st.at (due_of st)).numbers l (is_line s st.at (due_of st) l e)
-      go (Refused n) e = let h = early_line s st.at (due_of st) n e in refused n h.0 (omega (arith, h.1))
+      go : (r : Result Line Refusal) → line_at s st.at (due_of st) ≡ r → After (length s) st (by_reading (length s) st r)
+      go (Ok line) e = after_letter line.numbers line.letter (is_line s st.at (due_of st) line e)
+      go (Err n) e = let h = early_line s st.at (due_of st) n e in refused (refusal_number n) h.0 (omega (arith, h.1))

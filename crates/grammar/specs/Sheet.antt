@@ -1,11 +1,12 @@
 -- A whole sheet, read line by line: refusals 2 to 9 of document 01, each with its line number.
-use Rattle.std.specs.Prelude.{ℕ, zero, suc, ◌+◌, ◌-◌, ◌*◌, cond, ◌&&◌, not, List, [], ◌∷◌, ◌++◌, length, get_or, ltb, leb, eqb}
+use Rattle.std.specs.Prelude.{ℕ, Result, Ok, Err, zero, suc, ◌+◌, ◌-◌, ◌*◌, cond, ◌&&◌, not, List, [], ◌∷◌, ◌++◌, length, get_or, ltb, leb, eqb}
+use Rattle.base.specs.declared.refusal.Refusal.{Refusal}
+use Rattle.base.specs.Refusal.{refusal_number}
 use Rattle.base.specs.Limits.{most_tables, most_rows, most_car_lines, most_strikes}
 use Rattle.reading.specs.declared.letter.Letter.{Letter}
 use Rattle.reading.specs.declared.letter.Letter.TheVariants.{Table as T, Row as R, Car as C, Strike as K, End as E, CarAccepted, CarRefused, Totals, GradeTotals, SheetRefused}
+use Rattle.reading.specs.declared.letter.Line.{Line}
 use Rattle.reading.specs.declared.Due.{Due}
-use Rattle.reading.specs.declared.Reading.{Reading}
-use Rattle.reading.specs.declared.Reading.TheVariants.{Read, Refused}
 use Rattle.reading.specs.Letter.{width_of}
 use Rattle.reading.specs.Reading.{line_at}
 use Rattle.table.specs.Table.{Row, row_of, Table, table_line_bad, row_bad}
@@ -96,13 +97,13 @@ by_letter bytes st Totals ns = refused_here st 4
 by_letter bytes st GradeTotals ns = refused_here st 4
 by_letter bytes st SheetRefused ns = refused_here st 4
 
-abbrev pub by_reading : ℕ → State → Reading → List ℕ → Step
-by_reading bytes st (Read letter) ns = by_letter bytes st letter ns
-by_reading bytes st (Refused number) ns = refused_here st number
+abbrev pub by_reading : ℕ → State → Result Line Refusal → Step
+by_reading bytes st (Ok line) = by_letter bytes st line.letter line.numbers
+by_reading bytes st (Err refusal) = refused_here st (refusal_number refusal)
 
 -- the line due: 3 to 6, then 7, 8 or 9
 unfoldable pub step_of : List ℕ → State → Step
-step_of s st = let line = line_at s st.at (due_of st) in by_reading (length s) st line.reading line.numbers
+step_of s st = by_reading (length s) st (line_at s st.at (due_of st))
 
 -- line after line, so many turns at most; no sheet has more lines than bytes, so that what stands for no turn left is never answered (Proper)
 abbrev pub after : (State → SheetRead) → Step → SheetRead

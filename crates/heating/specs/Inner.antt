@@ -1,13 +1,6 @@
 -- What inner functions ask for; it is no part of what steps 4 to 6 and 9 mean.
-use Rattle.std.specs.Prelude.{ℕ, ◌-◌, ◌≡◌}
-use Rattle.heating.specs.Limits.{highest_temperature, DensityInRange}
-use Rattle.heating.specs.Steps.{expansion}
-use Rattle.heating.specs.declared.Oil.{Oil}
-
--- the density of the oil is in the range of 19, and B is that of its density
-pub record Known (oil : Oil) : Type 0 where
-  pub range : DensityInRange oil.density.0
-  pub own : oil.expansion ≡ expansion oil.density.0
+use Rattle.std.specs.Prelude.{ℕ, ◌-◌}
+use Rattle.heating.specs.Limits.{highest_temperature}
 
 -- the most tenths of a degree above 15 °C, and then the most of B, X and E, in their units
 abbrev pub most_above15 : ℕ

@@ -2,6 +2,10 @@
 // and proofs, and no code.
 #![tactic(auto)]
 
+ghost use Rattle.std.specs.Prelude.{◌≡◌};
+ghost use Rattle.heating.specs.Limits.{DensityInRange};
+ghost use Rattle.heating.specs.Steps;
+
 // The range of 19: densities at 15 °C, in 0.1 kg/m³.
 pub const LOWEST_DENSITY: u32 = 9_000;
 
@@ -14,30 +18,11 @@ pub struct Density15(pub u32);
 #[derive(Clone, Copy)]
 pub struct Density20(pub u32);
 
-// An oil by its density at 15 °C, with its B of step 4, in 10⁻⁹ per °C: B is found once and handed on.
+// An oil by its density at 15 °C, which is in the range of 19, with its B of step 4, in 10⁻⁹ per °C: B is found once and handed on.
 #[derive(Clone, Copy)]
 pub struct Oil {
     pub density: Density15,
     pub expansion: u32,
-}
-
-// B in 10⁻⁹ per °C, or a refusal.
-#[derive(Clone, Copy)]
-pub enum Expansion {
-    Billionths(u32),
-    Refused(u32),
-}
-
-// E in 10⁻¹⁰, or a refusal.
-#[derive(Clone, Copy)]
-pub enum Factor {
-    TenBillionths(u64),
-    Refused(u32),
-}
-
-// The density at 20 °C, or a refusal.
-#[derive(Clone, Copy)]
-pub enum DensityAt20 {
-    Density(Density20),
-    Refused(u32),
+    ghost in_range: { DensityInRange density.0 },
+    ghost own: { expansion ≡ Steps.expansion density.0 },
 }

@@ -1,16 +1,15 @@
 -- How tables and the lines behind them stand in the arrays: one more row, one more table, one more line.
 use Prim.Native.Nat.{ℕ, zero, suc, ◌+◌, ◌*◌, ◌≤◌, ◌<◌}
-use mathlib.Core.Path.{◌≡◌, refl, ap, ap₂, sym, ◌∙◌}
+use mathlib.Core.Path.{◌≡◌, refl, ap, sym, ◌∙◌}
 use mathlib.Core.List.{List, [], ◌∷◌, ◌++◌, append_assoc}
 use native.Mathlib.Nat.{add-zero, zero-add}
 use native.Mathlib.Numerals.{add-one}
 use native.Mathlib.Omega.{arith}
-use lib.ListN.{length, get_or, set, take, drop, length-append}
-use lib.Seq.{append_snoc, set_split, drop-drop, drop-cons, get_or-set_same, get_or-set_other, take_at, drop_at, take-add, take-take, take-append-le, take_all, length-take-le, paste}
+use lib.ListN.{length, get_or, set, take, drop}
+use lib.Seq.{drop-cons, get_or-set_same, get_or-set_other, take_at, drop_at, take-add, take-take, take-append-le, length-take-le}
 use Rattle.base.specs.Buffer.{put}
 use Rattle.base.proofs.Buffer.{length_put}
 use Rattle.base.specs.Limits.{most_rows, most_car_lines, most_strikes}
-use Rattle.reading.specs.Letter.{most_fields}
 use Rattle.table.specs.Table.{Row, row_of, Table}
 use Rattle.table.specs.Layout.{rows_from, table_at, tables_from}
 use Rattle.table.proofs.Arrays.{rows_last}
@@ -161,30 +160,6 @@ part_same l l' a m h h' e =
     sym (drop_at (take a l') (take m (drop a l')) a (length-take-le a l' h'))
     ∙ ap (drop a) (sym (take-add a m l') ∙ e ∙ take-add a m l)
     ∙ drop_at (take a l) (take m (drop a l)) a (length-take-le a l h)
-
--- the numbers of a line that were copied, one by one
-pub copied : (f : List ℕ) (at : ℕ) (ns : List ℕ) (j : ℕ) → length ns ≡ most_fields → j ≡ most_fields → paste f at ns j ≡ put f at ns
-copied f at ns j n e =
-    ap (paste f at ns) e
-    ∙ ap (λ (x : List ℕ). take at f ++ x ++ drop (at + most_fields) f) (take_all most_fields ns (omega arith))
-    ∙ ap (λ (i : ℕ). take at f ++ ns ++ drop (at + i) f) (sym n)
-
--- a number stored, then others behind it
-pub put-cons : (f : List ℕ) (at a : ℕ) (ns : List ℕ) → at < length f → put (set f at a) (at + 1) ns ≡ put f at (a ∷ ns)
-put-cons f at a ns h =
-    let head : List ℕ = take at f ++ (a ∷ []) in
-    let n : length head ≡ at + 1 = length-append (take at f) (a ∷ []) ∙ ap (λ (i : ℕ). i + 1) (length-take-le at f (omega arith)) in
-    let e : set f at a ≡ head ++ drop (suc at) f = set_split f at a h ∙ sym (append_snoc (take at f) a (drop (suc at) f)) in
-    let k : suc at + length ns ≡ at + suc (length ns) = omega arith in
-    let d : drop (at + 1 + length ns) (set f at a) ≡ drop (at + suc (length ns)) f =
-    sym (drop-drop (length ns) (at + 1) (set f at a))
-    ∙ ap (λ (x : List ℕ). drop (length ns) (drop (at + 1) x)) e
-    ∙ ap (drop (length ns)) (drop_at head (drop (suc at) f) (at + 1) n)
-    ∙ drop-drop (length ns) (suc at) f
-    ∙ ap (λ (i : ℕ). drop i f) k in
-    ap (λ (x : List ℕ). take (at + 1) x ++ ns ++ drop (at + 1 + length ns) (set f at a)) e
-    ∙ ap₂ (λ (x y : List ℕ). x ++ ns ++ y) (take_at head (drop (suc at) f) (at + 1) n) d
-    ∙ ap (λ (x : List ℕ). x ++ drop (at + suc (length ns)) f) (append_snoc (take at f) a ns)
 
 -- one more line, stored behind those that there are
 module _ (f ns : List ℕ) (n : ℕ) (whole : length ns ≡ line_places) (room : line_places * n + line_places ≤ length f) where

@@ -1,12 +1,11 @@
 -- What inner functions ask for and keep while a sheet is read; it is no part of what a sheet means.
-use Rattle.std.specs.Prelude.{ℕ, ◌+◌, ◌-◌, ◌≤◌, ◌<◌, ◌≡◌, List, length, get_or, set}
+use Rattle.std.specs.Prelude.{ℕ, Option, Some, None, Result, ◌+◌, ◌-◌, ◌≤◌, ◌<◌, ◌≡◌, List, length, get_or, set}
 use Rattle.base.specs.Limits.{most_tables, most_rows, most_car_lines, most_strikes}
 use Rattle.table.specs.declared.Directory.{Directory}
 use Rattle.table.specs.Layout.{tables_of}
 use Rattle.grammar.specs.Sheet.{longest, State, Step, next, over}
 use Rattle.grammar.specs.Inner.{Sound}
-use Rattle.holding.specs.declared.reader.Progress.{Progress}
-use Rattle.holding.specs.declared.reader.Progress.TheVariants.{Next, Over}
+use Rattle.holding.specs.declared.LineRefusal.{LineRefusal}
 use Rattle.holding.specs.declared.reader.Reader.{Reader}
 use Rattle.holding.specs.declared.reader.Stepped.{Stepped}
 use Rattle.holding.specs.Layout.{history_of, outcome_told}
@@ -16,12 +15,12 @@ abbrev pub state_in : Reader → List ℕ → List ℕ → List ℕ → State
 state_in r levels capacities fields =
     record { at = r.at; line = r.line; owed = r.owed; tables = tables_of r.directory levels capacities; cars = r.cars; struck = r.struck; history = history_of fields (r.cars + r.struck) }
 
-abbrev pub step_by : Progress → State → Step
-step_by Next st = next st
-step_by (Over outcome) st = over st (outcome_told outcome st.tables st.history)
+abbrev pub step_by : Option (Result Unit LineRefusal) → State → Step
+step_by None st = next st
+step_by (Some outcome) st = over st (outcome_told outcome st.tables st.history)
 
 abbrev pub step_in : Stepped → List ℕ → List ℕ → List ℕ → Step
-step_in p levels capacities fields = step_by p.progress (state_in p.reader levels capacities fields)
+step_in p levels capacities fields = step_by p.end (state_in p.reader levels capacities fields)
 
 -- a directory whose last table lacks rows: there is room for them
 pub record Owing (owed : ℕ) (d : Directory) : Type 0 where

@@ -1,12 +1,12 @@
 -- How a sheet that is read lies in arrays: its tables in a directory and two arrays (`table`), line i behind the tables from 15 i on in a third.
-use Rattle.std.specs.Prelude.{ℕ, zero, suc, ◌+◌, ◌*◌, cond, List, [], ◌∷◌, get_or, take, drop, eqb}
+use Rattle.std.specs.Prelude.{ℕ, Result, Ok, Err, zero, suc, ◌+◌, ◌*◌, cond, List, [], ◌∷◌, get_or, take, drop, eqb}
 use Rattle.base.specs.Limits.{most_car_lines, most_strikes}
+use Rattle.base.specs.Refusal.{refusal_number}
 use Rattle.reading.specs.Letter.{most_fields}
 use Rattle.table.specs.Table.{Table}
+use Rattle.holding.specs.declared.LineRefusal.{LineRefusal}
 use Rattle.grammar.specs.Grammar.{TrainLine, enters, strikes}
 use Rattle.grammar.specs.Sheet.{SheetRead, refused_at, whole}
-use Rattle.holding.specs.declared.Outcome.{Outcome}
-use Rattle.holding.specs.declared.Outcome.TheVariants.{Whole, RefusedAt}
 
 -- how many numbers stand for a line, its letter first, and for all lines behind the tables at most
 abbrev pub line_places : ℕ
@@ -39,6 +39,6 @@ abbrev pub history_of : List ℕ → ℕ → List TrainLine
 history_of fields n = history_from fields 0 n
 
 -- what an outcome tells, with the tables and lines that stand beside it; a refusal tells none of them
-abbrev pub outcome_told : Outcome → List Table → List TrainLine → SheetRead
-outcome_told Whole tables history = whole tables history
-outcome_told (RefusedAt line number) tables history = refused_at line number
+abbrev pub outcome_told : Result Unit LineRefusal → List Table → List TrainLine → SheetRead
+outcome_told (Ok u) tables history = whole tables history
+outcome_told (Err r) tables history = refused_at r.line (refusal_number r.refusal)

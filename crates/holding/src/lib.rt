@@ -1,13 +1,15 @@
 // What is held while a sheet is read: where the reading stands, and the rows and lines behind the tables so far.
 #![tactic(auto)]
 
-use base::{MOST_CAR_LINES, MOST_STRIKES};
+use base::{MOST_CAR_LINES, MOST_STRIKES, Refusal};
 use reading::MOST_FIELDS;
+use std::error::Error;
+use std::fmt;
 
 mod reader; // reader.rt: where the reading stands
 mod store; // store.rt: rows and lines stored in the arrays that are lent
 
-pub use reader::{Progress, Reader, Stepped, due_of, reader_at, refused_here, started};
+pub use reader::{Reader, Stepped, due_of, reader_at, refused_here, started};
 pub use store::{store_line, store_row};
 
 // How many numbers stand for a line behind the tables, its letter first, and for all of them at most.
@@ -20,9 +22,18 @@ pub const CAR_MARK: u32 = 0;
 
 pub const STRIKE_MARK: u32 = 1;
 
-// Whether the sheet was read whole, or the line number and the refusal.
-#[derive(Clone, Copy)]
-pub enum Outcome {
-    Whole,
-    RefusedAt(u32, u32),
+// Why a sheet is refused, and at which line.
+#[derive(Clone, Copy, Debug, PartialEq, Eq)]
+pub struct LineRefusal {
+    pub line: u32,
+    pub refusal: Refusal,
 }
+
+// The number of the refusal, then that of the line.
+impl fmt::Display for LineRefusal {
+    fn fmt<W: fmt::Write>(&self, f: &mut fmt::Formatter<W>) -> fmt::Result {
+        write!(f, "{} {}", self.refusal, self.line)
+    }
+}
+
+impl Error for LineRefusal {}

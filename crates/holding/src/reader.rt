@@ -1,11 +1,12 @@
 // Where the reading of a sheet stands, and what a line brings.
 ghost use Rattle.std.specs.Prelude.{◌≡◌, List, ℕ, ◌<◌};
 ghost use Rattle.base.specs.Limits.{most_tables};
+ghost use Rattle.base.specs.Refusal.{refusal_number};
 ghost use Rattle.grammar.specs.Sheet.{due_by, refused_here, start};
 ghost use Rattle.holding.specs.Inner.{state_in, step_in, reader_at};
 
-use crate::Outcome;
-use base::MOST_TABLES;
+use crate::LineRefusal;
+use base::{MOST_TABLES, Refusal};
 use reading::Due;
 use table::Directory;
 
@@ -21,16 +22,10 @@ pub struct Reader {
     pub directory: Directory,
 }
 
-// What a line brings: one more line is due, or the reading is over. An enum may not hold the reader's arrays.
-#[derive(Clone, Copy)]
-pub enum Progress {
-    Next,
-    Over(Outcome),
-}
-
+// What a line brings: where the reading stands then, and if it is over, whether the sheet was read whole or why it is refused.
 #[derive(Clone, Copy)]
 pub struct Stepped {
-    pub progress: Progress,
+    pub end: Option<Result<(), LineRefusal>>,
     pub reader: Reader,
 }
 
@@ -56,21 +51,14 @@ pub fn started() -> Reader
 pub fn due_of(owed: u32, tables: u32, behind: usize) -> Due
     ensures { result ≡ due_by owed tables behind }
 {
-    if owed != 0 {
-        return Due {
-            table: false,
-            row: true,
-            car: false,
-            strike: false,
-            end: false,
-        };
-    }
+    let settled = owed == 0;
+    let begun = settled && 0 < tables;
     Due {
-        table: behind == 0,
-        row: false,
-        car: 0 < tables,
-        strike: 0 < tables,
-        end: 0 < tables,
+        table: settled && behind == 0,
+        row: !settled,
+        car: begun,
+        strike: begun,
+        end: begun,
     }
 }
 
@@ -85,18 +73,20 @@ pub fn reader_at(reader: Reader, at: usize, line: u32, owed: u32, k: usize, rows
         at,
         line,
         owed,
-        cars: reader.cars,
-        struck: reader.struck,
         directory,
+        ..reader
     }
 }
 
 // The line due is refused.
-pub fn refused_here(reader: Reader, number: u32) -> Stepped
-    ensures { (l c f : List ℕ) → step_in result l c f ≡ refused_here (state_in reader l c f) number }
+pub fn refused_here(reader: Reader, refusal: Refusal) -> Stepped
+    ensures { (l c f : List ℕ) → step_in result l c f ≡ refused_here (state_in reader l c f) (refusal_number refusal) }
 {
     Stepped {
-        progress: Progress::Over(Outcome::RefusedAt(reader.line, number)),
+        end: Some(Err(LineRefusal {
+            line: reader.line,
+            refusal,
+        })),
         reader,
     }
 }

@@ -1,21 +1,12 @@
-// Rows and lines stored in the arrays that are lent. An array's size is asked because only a list that is lent on
-// tells the proof how long it is.
+// Rows and lines stored in the arrays that are lent.
 ghost use Rattle.std.specs.Prelude.{◌≡◌, ◌∷◌, ◌+◌, ◌≤◌, ◌<◌, length};
 ghost use Rattle.base.specs.Buffer.{put};
-ghost use Rattle.reading.specs.Letter.{most_fields};
 ghost use Rattle.table.specs.Layout.{places};
 ghost use Rattle.holding.specs.Layout.{line_places, history_numbers};
 ghost use Rattle.holding.specs.Inner.{Stored};
 
-use crate::HISTORY_NUMBERS;
+use crate::{HISTORY_NUMBERS, LINE_PLACES};
 use reading::MOST_FIELDS;
-
-// How many numbers a lent list has.
-fn size(list: &[u32]) -> usize
-    ensures { result ≡ length list.now }
-{
-    list.len()
-}
 
 // Stores a row.
 pub fn store_row(
@@ -28,23 +19,8 @@ pub fn store_row(
     requires { place < places }
     ensures { Stored levels.old capacities.old levels.new capacities.new place level capacity }
 {
-    size(levels);
-    size(capacities);
     levels[place] = level;
     capacities[place] = capacity;
-}
-
-// Stores a line's numbers from `at` on.
-fn store_numbers(fields: &mut [u32; HISTORY_NUMBERS], at: usize, numbers: [u32; MOST_FIELDS])
-    requires { at + most_fields ≤ history_numbers }
-    ensures { (fields.new ≡ put fields.old at numbers) × (length fields.old ≡ history_numbers) × (length numbers ≡ most_fields) }
-{
-    size(fields);
-    let mut j: usize = 0;
-    while j < MOST_FIELDS {
-        fields[at + j] = numbers[j];
-        j += 1;
-    }
 }
 
 // Stores a line from `at` on: what stands for its letter, then its numbers.
@@ -57,7 +33,6 @@ pub fn store_line(
     requires { at + line_places ≤ history_numbers }
     ensures { (fields.new ≡ put fields.old at (letter ∷ numbers)) × (length fields.old ≡ history_numbers) }
 {
-    size(fields);
     fields[at] = letter;
-    store_numbers(fields, at + 1, numbers);
+    fields[at + 1..at + LINE_PLACES].copy_from_slice(&numbers);
 }

@@ -8,9 +8,9 @@ ghost use Rattle.table.specs.Layout.{places};
 ghost use Rattle.gauging.specs.Capacity.{interpolated};
 ghost use Rattle.gauging.specs.Inner.{gap_at, gap_of, Between, Reaches, RowBelow};
 
-use base::{TENTHS, lesser, wide};
+use base::TENTHS;
 use gauging::Neighbours;
-use table::PLACES;
+use table::{PLACES, Tables};
 
 // A level in mm, in tenths of a mm.
 pub fn in_tenths(mm: u32) -> u64
@@ -23,14 +23,12 @@ pub fn in_tenths(mm: u32) -> u64
 pub fn least_mm(level: u64) -> u64
     ensures { Reaches level result }
 {
-    if level == 0 {
-        return 0;
-    }
-    (level - 1) / TENTHS + 1
+    level.div_ceil(TENTHS)
 }
 
 // Of the rows `step` apart from `low` up to `last`, the last that does not reach `reach` mm; `low` where each after it does. The
-// loop is never left early, so that no branch hangs on the level.
+// loop is never left early, so that no branch hangs on the level. A `for` over a `step_by` is no plainer: its proof needs the measure
+// and the invariant all the same, and beside them what the iterator yields.
 fn last_below(levels: &[u32; PLACES], low: usize, last: usize, step: usize, reach: u64) -> usize
     requires { (low ≤ last) × (last < places) × (0 < step) × (step ≤ places) }
     ensures { RowBelow levels.now low last reach result }
@@ -38,7 +36,7 @@ fn last_below(levels: &[u32; PLACES], low: usize, last: usize, step: usize, reac
     let mut found = low;
     let mut i = low + step;
     while i <= last {
-        if wide(levels[i]) < reach {
+        if u64::from(levels[i]) < reach {
             found = i;
         }
         i += step;
@@ -53,21 +51,20 @@ pub fn skip_rows(levels: &[u32; PLACES], low: usize, last: usize, reach: u64) ->
     ensures { RowBelow levels.now low last reach result }
 {
     let block = last_below(levels, low, last, 49, reach);
-    let seven = last_below(levels, block, lesser(block + 48, last), 7, reach);
-    last_below(levels, seven, lesser(seven + 6, last), 1, reach)
+    let seven = last_below(levels, block, last.min(block + 48), 7, reach);
+    last_below(levels, seven, last.min(seven + 6), 1, reach)
 }
 
 // Row `low` and the next.
-pub fn neighbours(levels: &[u32; PLACES], capacities: &[u32; PLACES], low: usize) -> Neighbours
+pub fn neighbours(tables: &Tables<'_>, low: usize) -> Neighbours
     requires { low + 1 < places }
-    ensures { gap_of result ≡ gap_at levels.now capacities.now low }
+    ensures { gap_of result ≡ gap_at tables.now.levels.now tables.now.capacities.now low }
 {
-    let high = low + 1;
     Neighbours {
-        low_level: levels[low],
-        low_capacity: capacities[low],
-        high_level: levels[high],
-        high_capacity: capacities[high],
+        low_level: tables.levels[low],
+        low_capacity: tables.capacities[low],
+        high_level: tables.levels[low + 1],
+        high_capacity: tables.capacities[low + 1],
     }
 }
 

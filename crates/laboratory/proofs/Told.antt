@@ -4,12 +4,14 @@ use mathlib.Core.Bool.{true, false}
 use mathlib.Core.List.{[], ◌∷◌}
 use mathlib.Core.Logic.{inl, inr, ⊎_elim}
 use borrow.Author.Tests.{ltb-true, ltb-false}
+use Rattle.std.specs.Prelude.{Result, Ok, Err}
 use Rattle.base.specs.Answer.{first}
 use Rattle.base.proofs.Numbers.{inside, inside_back, beyond, beyond_back}
 use Rattle.base.proofs.Answer.{neither_applies, either_applies, answer_figures, answer_refusal}
+use Rattle.base.specs.Refusal.{refusal_number}
+use Rattle.base.specs.declared.refusal.Refusal.{Refusal}
+use Rattle.heating.specs.declared.Density15.{Density15}
 use Rattle.laboratory.specs.declared.Report.{Report}
-use Rattle.laboratory.specs.declared.DensityAt15.{DensityAt15}
-use Rattle.laboratory.specs.declared.DensityAt15.TheVariants.{Density, Refused}
 use Rattle.laboratory.specs.Nearest.{distance}
 use Rattle.laboratory.specs.Answers.{coldest, hottest, temperature_bad, far_off, report_tests, ReportAnswer, report_told}
 use Rattle.laboratory.specs.Told.{TemperatureInRange, FieldRight, ToldRight, ToldOnly}
@@ -24,25 +26,25 @@ temperature_in p e = let h = inside coldest hottest p.temperature e in record { 
 temperature_in_back : (p : Report) → TemperatureInRange p → temperature_bad p ≡ false
 temperature_in_back p t = inside_back coldest hottest p.temperature t.warm t.hot
 
-told_right : (p : Report) (a : DensityAt15) → ReportAnswer p (report_told a) → ToldRight p a
-told_right p (Density r) w =
+told_right : (p : Report) (a : Result Density15 Refusal) → ReportAnswer p (report_told a) → ToldRight p a
+told_right p (Ok r) w =
     let h = answer_figures (first (report_tests p w.field)) w.answered in
     let t = neither_applies 26 27 (temperature_bad p) (far_off p w.field) h.0 in
     let e : w.field ≡ r.0 = cc in
     subst (FieldRight p) e (field_right p (temperature_in p t.0) w.nearest (ltb-false 1 (distance p w.field) t.1))
-told_right p (Refused n) w =
+told_right p (Err e) w =
     ⊎_elim
-    (λ (h : (n ≡ 26) × (temperature_bad p ≡ true)). inl (h.0, beyond coldest hottest p.temperature h.1))
-    (λ (h : (n ≡ 27) × (temperature_bad p ≡ false) × (far_off p w.field ≡ true)).
+    (λ (h : (refusal_number e ≡ 26) × (temperature_bad p ≡ true)). inl (h.0, beyond coldest hottest p.temperature h.1))
+    (λ (h : (refusal_number e ≡ 27) × (temperature_bad p ≡ false) × (far_off p w.field ≡ true)).
     inr (h.0, far_off_lem p (temperature_in p h.1) w.nearest (ltb-true 1 (distance p w.field) h.2)))
     (either_applies 26 27 (temperature_bad p) (far_off p w.field) (answer_refusal (first (report_tests p w.field)) (w.field ∷ []) w.answered))
 
-right_told : (p : Report) (a : DensityAt15) → ToldRight p a → ReportAnswer p (report_told a)
-right_told p (Density r) f = found (temperature_in_back p f.temperature) f.nearest f.close
-right_told p (Refused n) (inl h) = rw h.0 (turned_away_lem (beyond_back coldest hottest p.temperature h.1))
-right_told p (Refused n) (inr h) =
+right_told : (p : Report) (a : Result Density15 Refusal) → ToldRight p a → ReportAnswer p (report_told a)
+right_told p (Ok r) f = found (temperature_in_back p f.temperature) f.nearest f.close
+right_told p (Err e) (inl h) = rw h.0 (turned_away_lem (beyond_back coldest hottest p.temperature h.1))
+right_told p (Err e) (inr h) =
     let s = nearest_exists p in
     rw h.0 (too_far (temperature_in_back p h.1.temperature) s.nearest (h.1.every s.field s.nearest.field))
 
-pub told_only : (p : Report) (a : DensityAt15) → ReportAnswer p (report_told a) → ToldOnly p a
+pub told_only : (p : Report) (a : Result Density15 Refusal) → ReportAnswer p (report_told a) → ToldOnly p a
 told_only p a w = record { right = told_right p a w; only = λ b r. (only_answer w).only (report_told b) (right_told p b r) }

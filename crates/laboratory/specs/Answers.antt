@@ -1,10 +1,11 @@
 -- The answer to a report: 26, then 27, else the field. There is one only.
-use Rattle.std.specs.Prelude.{ℕ, ◌≡◌, Bool, List, [], ◌∷◌, ltb}
-use Rattle.base.specs.Answer.{Test, refuse_if, first, Answer, figures, refusal, answer}
+use Rattle.std.specs.Prelude.{ℕ, ◌≡◌, Bool, List, [], ◌∷◌, ltb, Result}
+use Rattle.base.specs.Answer.{Test, refuse_if, first, Answer, answer}
 use Rattle.base.specs.Numbers.{outside}
+use Rattle.base.specs.Refusal.{told}
+use Rattle.base.specs.declared.refusal.Refusal.{Refusal}
+use Rattle.heating.specs.declared.Density15.{Density15}
 use Rattle.laboratory.specs.declared.Report.{Report}
-use Rattle.laboratory.specs.declared.DensityAt15.{DensityAt15}
-use Rattle.laboratory.specs.declared.DensityAt15.TheVariants.{Density, Refused}
 use Rattle.laboratory.specs.Nearest.{distance, Nearest}
 
 -- the laboratory's temperatures, in 0.1 °C
@@ -41,6 +42,5 @@ pub record OnlyAnswer (p : Report) (a : Answer) : Type 0 where
   pub only : (b : Answer) → ReportAnswer p b → b ≡ a
 
 -- what the code's answer says
-abbrev pub report_told : DensityAt15 → Answer
-report_told (Density r) = figures (r.0 ∷ [])
-report_told (Refused n) = refusal n
+abbrev pub report_told : Result Density15 Refusal → Answer
+report_told = told (λ r. r.0 ∷ [])

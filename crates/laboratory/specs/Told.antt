@@ -1,10 +1,11 @@
 -- What is handed back, said without tests and their order: of a field, that none lies nearer and that it lies near enough; of 27, that
 -- every field lies too far off, which is so exactly where the report lies beyond the first field or the last.
-use Rattle.std.specs.Prelude.{ℕ, ◌+◌, ◌≤◌, ◌<◌, ◌≡◌, ◌⊎◌}
+use Rattle.std.specs.Prelude.{ℕ, ◌+◌, ◌≤◌, ◌<◌, ◌≡◌, ◌⊎◌, Result, Ok, Err}
+use Rattle.base.specs.Refusal.{refusal_number}
+use Rattle.base.specs.declared.refusal.Refusal.{Refusal}
+use Rattle.heating.specs.declared.Density15.{Density15}
 use Rattle.heating.specs.Limits.{lowest_density, highest_density, DensityInRange}
 use Rattle.laboratory.specs.declared.Report.{Report}
-use Rattle.laboratory.specs.declared.DensityAt15.{DensityAt15}
-use Rattle.laboratory.specs.declared.DensityAt15.TheVariants.{Density, Refused}
 use Rattle.laboratory.specs.Nearest.{density_there, distance, Nearest}
 use Rattle.laboratory.specs.Answers.{coldest, hottest, report_told}
 
@@ -31,11 +32,11 @@ pub record FarOff (p : Report) : Type 0 where
   pub every : (s : ℕ) → DensityInRange s → 1 < distance p s
   pub beyond : (p.density + 1 < density_there p lowest_density) ⊎ (density_there p highest_density + 1 < p.density)
 
-abbrev pub ToldRight : Report → DensityAt15 → Type 0
-ToldRight p (Density r) = FieldRight p r.0
-ToldRight p (Refused n) = ((n ≡ 26) × TemperatureOutside p) ⊎ ((n ≡ 27) × FarOff p)
+abbrev pub ToldRight : Report → Result Density15 Refusal → Type 0
+ToldRight p (Ok r) = FieldRight p r.0
+ToldRight p (Err e) = ((refusal_number e ≡ 26) × TemperatureOutside p) ⊎ ((refusal_number e ≡ 27) × FarOff p)
 
 -- a is right so, and whatever else is says the same
-pub record ToldOnly (p : Report) (a : DensityAt15) : Type 0 where
+pub record ToldOnly (p : Report) (a : Result Density15 Refusal) : Type 0 where
   pub right : ToldRight p a
-  pub only : (b : DensityAt15) → ToldRight p b → report_told b ≡ report_told a
+  pub only : (b : Result Density15 Refusal) → ToldRight p b → report_told b ≡ report_told a

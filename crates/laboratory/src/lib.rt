@@ -2,18 +2,9 @@
 // code.
 #![tactic(auto)]
 
-use heating::Density15;
-
 // What a laboratory reports: a density in 0.1 kg/m³, and the temperature at which it was taken in 0.1 °C.
 #[derive(Clone, Copy)]
 pub struct Report {
     pub density: u32,
     pub temperature: u32,
-}
-
-// The density at 15 °C, or a refusal.
-#[derive(Clone, Copy)]
-pub enum DensityAt15 {
-    Density(Density15),
-    Refused(u32),
 }

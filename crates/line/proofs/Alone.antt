@@ -3,21 +3,21 @@ use Prim.Native.Nat.{ℕ, zero, suc, ◌+◌, ◌-◌, ◌*◌, ◌≤◌, ◌<�
 use mathlib.Core.Path.{◌≡◌, refl, ap, sym, ◌∙◌}
 use mathlib.Core.Bool.{Bool, true, false, cond}
 use mathlib.Core.List.{List, [], ◌∷◌, ◌++◌}
+use Rattle.std.specs.Prelude.{Option, Some, None, Result, Ok, Err}
 use native.Mathlib.Nat.{zero-add}
 use native.Mathlib.Omega.{arith}
 use lib.ListN.{length, get_or, take, length-append, get_or-append}
 use lib.Seq.{get_or-take, length-take-le}
 use lib.Dec.{eqb}
 use borrow.Author.Tests.{eqb-true, eqb-false, lt-ltb}
-use Rattle.field.specs.declared.Field.{Field}
+use Rattle.base.specs.declared.refusal.Refusal.{Refusal}
+use Rattle.base.specs.declared.refusal.Refusal.TheVariants.{LineLength, NotNumber}
 use Rattle.field.specs.Field.{field_at}
 use Rattle.field.proofs.Reading.{field_same}
-use Rattle.reading.specs.declared.Found.{Found}
-use Rattle.reading.specs.declared.Found.TheVariants.{Is, Nothing}
-use Rattle.reading.specs.declared.Reading.TheVariants.{Read}
-use Rattle.reading.specs.declared.LineRead.{LineRead}
+use Rattle.reading.specs.declared.letter.Letter.{Letter}
+use Rattle.reading.specs.declared.letter.Line.{Line}
 use Rattle.reading.specs.Letter.{count_of}
-use Rattle.reading.specs.Reading.{letter_of, feed, feed_at, is_number, field_value, good, values, filled, refused_line, line_by, any, line_at}
+use Rattle.reading.specs.Reading.{letter_of, feed, feed_at, is_number, field_value, good, values, filled, line_by, any, line_at}
 use Rattle.line.specs.Alone.{read_line, EndsAtFeed}
 use Rattle.reading.proofs.Fields.{feed_run, feed_byte}
 
@@ -40,21 +40,21 @@ fields_same s t at (suc k) h =
     let r = fields_same s t at k (λ i l. h i (omega arith)) in
     let f : field_at s (at + 9 * k) ≡ field_at t (at + 9 * k) =
     field_same s t (at + 9 * k) (λ i l. let p : at + 9 * k + i ≡ at + (9 * k + i) = omega arith in rw p (h (9 * k + i) (omega arith))) in (
-      ap (λ (x : Bool). cond x (is_number (field_at s (at + 9 * k))) false) r.0 ∙ ap (λ (x : Field). cond (good t at k) (is_number x) false) f,
-      ap (λ (x : List ℕ). x ++ (field_value (field_at s (at + 9 * k)) ∷ [])) r.1 ∙ ap (λ (x : Field). values t at k ++ (field_value x ∷ [])) f,
+      ap (λ (x : Bool). cond x (is_number (field_at s (at + 9 * k))) false) r.0 ∙ ap (λ (x : Option ℕ). cond (good t at k) (is_number x) false) f,
+      ap (λ (x : List ℕ). x ++ (field_value (field_at s (at + 9 * k)) ∷ [])) r.1 ∙ ap (λ (x : Option ℕ). values t at k ++ (field_value x ∷ [])) f,
     )
 
 module _ (s t : List ℕ) (e : ℕ) (h : (i : ℕ) → i ≤ e → get_or s i 0 ≡ get_or t i 0) where
-  by_same : (f : Found) → line_by s 0 e f ≡ line_by t 0 e f
+  by_same : (f : Option Letter) → line_by s 0 e f ≡ line_by t 0 e f
   unfolding line_by
-  by_same Nothing = refl
-  by_same (Is l) = go (eqb (e - 0) (1 + 9 * count_of l)) refl
+  by_same None = refl
+  by_same (Some l) = go (eqb (e - 0) (1 + 9 * count_of l)) refl
     where
-      inner : List ℕ → LineRead
+      inner : List ℕ → Result Line Refusal
       inner u =
-          cond (good u (0 + 1) (count_of l)) (record { reading = Read l; numbers = filled (values u (0 + 1) (count_of l)) (count_of l) }) (refused_line 6)
+          cond (good u (0 + 1) (count_of l)) (Ok (record { letter = l; numbers = filled (values u (0 + 1) (count_of l)) (count_of l) })) (Err NotNumber)
 
-      go : (b : Bool) → eqb (e - 0) (1 + 9 * count_of l) ≡ b → cond b (inner s) (refused_line 5) ≡ cond b (inner t) (refused_line 5)
+      go : (b : Bool) → eqb (e - 0) (1 + 9 * count_of l) ≡ b → cond b (inner s) (Err LineLength) ≡ cond b (inner t) (Err LineLength)
       go false p = refl
       go true p =
           let n : e - 0 ≡ 1 + 9 * count_of l = eqb-true (e - 0) (1 + 9 * count_of l) p in

@@ -2,11 +2,12 @@
 use Prim.Native.Nat.{ℕ}
 use mathlib.Core.Path.{◌≡◌, refl}
 use mathlib.Core.List.{List, [], ◌∷◌}
+use Rattle.std.specs.Prelude.{Err}
 use lib.ListN.{replicate}
+use Rattle.base.specs.declared.refusal.Refusal.TheVariants.{NoLine, LineLength, NotNumber}
 use Rattle.field.specs.Field.{seen_to, field_at, justified, field_of}
 use Rattle.reading.specs.declared.letter.Letter.TheVariants.{Row, Car, Strike}
-use Rattle.reading.specs.declared.Reading.TheVariants.{Refused}
-use Rattle.reading.specs.Reading.{letter_of, feed, feed_at, good, values, refused_line, line_by, line_at}
+use Rattle.reading.specs.Reading.{letter_of, feed, feed_at, good, values, line_by, line_at}
 use Rattle.line.specs.Alone.{read_line}
 use Rattle.line.specs.RoundTrip.{read_as}
 use Rattle.line.specs.Writing.{fields_of, line_of}
@@ -36,17 +37,16 @@ row : line_of (record { letter = Row; numbers = 1_000 ∷ 20_000 ∷ replicate 1
 unfolding fields_of justified field_of line_of
 row = refl
 
--- "E" and the field "      002"; beside a refusal all numbers are 0
-leading_zero : read_line (69 ∷ 32 ∷ 32 ∷ 32 ∷ 32 ∷ 32 ∷ 32 ∷ 48 ∷ 48 ∷ 50 ∷ 10 ∷ [])
-    ≡ record { reading = Refused 6; numbers = 0 ∷ 0 ∷ 0 ∷ 0 ∷ 0 ∷ 0 ∷ 0 ∷ 0 ∷ 0 ∷ 0 ∷ 0 ∷ 0 ∷ 0 ∷ 0 ∷ [] }
+-- "E" and the field "      002"
+leading_zero : read_line (69 ∷ 32 ∷ 32 ∷ 32 ∷ 32 ∷ 32 ∷ 32 ∷ 48 ∷ 48 ∷ 50 ∷ 10 ∷ []) ≡ Err NotNumber
 unfolding seen_to field_at letter_of feed feed_at good values line_by line_at
 leading_zero = refl
 
-carriage_return : read_line (69 ∷ 32 ∷ 32 ∷ 32 ∷ 32 ∷ 32 ∷ 32 ∷ 32 ∷ 32 ∷ 50 ∷ 13 ∷ 10 ∷ []) ≡ refused_line 5
+carriage_return : read_line (69 ∷ 32 ∷ 32 ∷ 32 ∷ 32 ∷ 32 ∷ 32 ∷ 32 ∷ 32 ∷ 50 ∷ 13 ∷ 10 ∷ []) ≡ Err LineLength
 unfolding letter_of feed feed_at line_by line_at
 carriage_return = refl
 
 -- "hello" with no line feed is 3, whatever its letter
-no_feed : read_line (104 ∷ 101 ∷ 108 ∷ 108 ∷ 111 ∷ []) ≡ refused_line 3
+no_feed : read_line (104 ∷ 101 ∷ 108 ∷ 108 ∷ 111 ∷ []) ≡ Err NoLine
 unfolding feed feed_at line_at
 no_feed = refl

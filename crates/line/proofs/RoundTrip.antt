@@ -3,6 +3,7 @@ use Prim.Native.Nat.{ℕ, zero, suc, ◌+◌, ◌-◌, ◌*◌, ◌%◌, ◌/◌
 use mathlib.Core.Path.{◌≡◌, refl, ap, sym, ◌∙◌}
 use mathlib.Core.Bool.{Bool, true, false, cond}
 use mathlib.Core.List.{List, [], ◌∷◌, ◌++◌, append_assoc}
+use Rattle.std.specs.Prelude.{Option, Some, Ok}
 use native.Mathlib.Nat.{add-zero, zero-add}
 use native.Mathlib.Numerals.{add-one}
 use native.Mathlib.Omega.{arith}
@@ -12,16 +13,12 @@ use lib.Dec.{eqb}
 use borrow.Author.Tests.{ne_eqb}
 use Rattle.base.specs.Buffer.{put}
 use Rattle.base.specs.Limits.{largest}
-use Rattle.field.specs.declared.Field.{Field}
-use Rattle.field.specs.declared.Field.TheVariants.{Number}
 use Rattle.field.specs.Field.{field_at, glyph_of, justified, field_of}
 use Rattle.field.proofs.Writing.{length_field_of}
 use Rattle.field.proofs.RoundTrip.{written_read, read_written}
 use Rattle.reading.specs.declared.letter.Letter.{Letter}
 use Rattle.reading.specs.declared.letter.Line.{Line}
 use Rattle.reading.specs.declared.Due.{Due}
-use Rattle.reading.specs.declared.Found.TheVariants.{Is}
-use Rattle.reading.specs.declared.Reading.TheVariants.{Read}
 use Rattle.reading.specs.Letter.{byte_of, count_of, width_of}
 use Rattle.reading.specs.Reading.{letter_of, feed, feed_at, field_value, good, values, filled, any, line_at}
 use Rattle.line.specs.Alone.{read_line}
@@ -85,17 +82,12 @@ read_small s at due l ns h =
 
 pub read_writes_back : (s : List ℕ) → ReadWritesBack s (read_line s)
 read_writes_back s = record {
-  width = λ l room z h. sym (answered (line l) 0 room (fits l room z h));
-  bytes = λ l lent z h.
-      sym (line_written (line l) 0 lent (fits l (length lent) z h))
-      ∙ ap (λ (x : List ℕ). put lent 0 x) (sym (read_bytes s 0 any (line l) (is_line s 0 any l z)));
+  width = λ line room z h. sym (answered line 0 room (fits line room z h));
+  bytes = λ line lent z h. sym (line_written line 0 lent (fits line (length lent) z h)) ∙ ap (λ (x : List ℕ). put lent 0 x) (sym (read_bytes s 0 any line (is_line s 0 any line z)));
 }
   where
-    line : Letter → Line
-    line l = record { letter = l; numbers = (read_line s).numbers }
-
-    fits : (l : Letter) (room : ℕ) → (read_line s).reading ≡ Read l → width_of l ≤ room → writable (line l) 0 room ≡ true
-    fits l room z h = can_write (line l) 0 room (omega arith) (read_small s 0 any l (read_line s).numbers (is_line s 0 any l z))
+    fits : (line : Line) (room : ℕ) → read_line s ≡ Ok line → width_of line.letter ≤ room → writable line 0 room ≡ true
+    fits line room z h = can_write line 0 room (omega arith) (read_small s 0 any line.letter line.numbers (is_line s 0 any line z))
 
 -- Written and read again.
 
@@ -152,14 +144,14 @@ field_of_lem (n ∷ ns) post (suc j) h =
     ∙ field_of_lem ns post j (omega arith)
 
 -- fields that each read as a number
-all_read : (s : List ℕ) (at : ℕ) (ns : List ℕ) → ((j : ℕ) → j < length ns → field_at s (at + 9 * j) ≡ Number (get_or ns j 0))
+all_read : (s : List ℕ) (at : ℕ) (ns : List ℕ) → ((j : ℕ) → j < length ns → field_at s (at + 9 * j) ≡ Some (get_or ns j 0))
     → (k : ℕ) → k ≤ length ns → (good s at k ≡ true) × (values s at k ≡ take k ns)
 unfolding good values
 all_read s at ns f zero h = (refl, refl)
 all_read s at ns f (suc k) h =
     let r = all_read s at ns f k (omega arith) in
     let e = f k h in
-    (simp (r.0, e), ap (λ (x : List ℕ). x ++ (field_value (field_at s (at + 9 * k)) ∷ [])) r.1 ∙ ap (λ (x : Field). take k ns ++ (field_value x ∷ [])) e ∙ sym (take-suc ns k 0 h))
+    (simp (r.0, e), ap (λ (x : List ℕ). x ++ (field_value (field_at s (at + 9 * k)) ∷ [])) r.1 ∙ ap (λ (x : Option ℕ). take k ns ++ (field_value x ∷ [])) e ∙ sym (take-suc ns k 0 h))
 
 -- a line whose bytes stand at a place of s
 module _ (s : List ℕ) (at : ℕ) (l : Line) (post : List ℕ) (n : length l.numbers ≡ 14) (d : drop at s ≡ line_of l ++ post) where
@@ -189,7 +181,7 @@ module _ (s : List ℕ) (at : ℕ) (l : Line) (post : List ℕ) (n : length l.nu
   first_byte = ap (λ (i : ℕ). get_or s i 0) (sym (add-zero at)) ∙ sym (get_or-drop at s 0 0) ∙ ap (λ (x : List ℕ). get_or x 0 0) bytes
 
   field_there : small_to l.numbers (count_of l.letter) ≡ true
-      → (j : ℕ) → j < length (take (count_of l.letter) l.numbers) → field_at s (at + 1 + 9 * j) ≡ Number (get_or (take (count_of l.letter) l.numbers) j 0)
+      → (j : ℕ) → j < length (take (count_of l.letter) l.numbers) → field_at s (at + 1 + 9 * j) ≡ Some (get_or (take (count_of l.letter) l.numbers) j 0)
   field_there small j h =
       let ns : List ℕ = take (count_of l.letter) l.numbers in
       let i : j < count_of l.letter = omega (arith, count) in
@@ -201,25 +193,24 @@ module _ (s : List ℕ) (at : ℕ) (l : Line) (post : List ℕ) (n : length l.nu
       ∙ field_of_lem ns (10 ∷ post) j h)
 
 -- what is written for a line reads as its letter and numbers
-pub bytes_read : (s : List ℕ) (at : ℕ) (due : Due) (l : Line) → letter_of (byte_of l.letter) due ≡ Is l.letter → small_to l.numbers (count_of l.letter) ≡ true
+pub bytes_read : (s : List ℕ) (at : ℕ) (due : Due) (l : Line) → letter_of (byte_of l.letter) due ≡ Some l.letter → small_to l.numbers (count_of l.letter) ≡ true
     → length l.numbers ≡ 14 → take (width_of l.letter) (drop at s) ≡ line_of l → line_at s at due ≡ read_as l
 bytes_read s at due l f small n t =
     let k : ℕ = count_of l.letter in
     let ns : List ℕ = take k l.numbers in
     let post : List ℕ = drop (width_of l.letter) (drop at s) in
     let d : drop at s ≡ line_of l ++ post = sym (take-append-drop (width_of l.letter) (drop at s)) ∙ ap (λ (x : List ℕ). x ++ post) t in
-    let h : Opening s at due (at + (1 + 9 * k)) (Is l.letter) l.letter k =
+    let h : Opening s at due (at + (1 + 9 * k)) l.letter k =
     record {
       place = sym (feed_there s at l post n d);
       within = inside s at l post n d;
       found = sym (ap (λ (b : ℕ). letter_of b due) (first_byte s at l post n d) ∙ f);
-      letter = refl;
       count = refl;
     } in
     let r = all_read s (at + 1) ns (field_there s at l post n d small) k (omega (arith, count s at l post n d)) in
     let v : values s (at + 1) k ≡ ns = r.1 ∙ take-take k k l.numbers (omega arith) in
-    line_read s at due (at + (1 + 9 * k)) (Is l.letter) l.letter k h (omega arith) (record { good = true; list = filled (values s (at + 1) k) k }) (simp r.0) refl
-    ∙ ap (λ (x : List ℕ). record { reading = Read l.letter; numbers = filled x k }) v
+    line_read s at due (at + (1 + 9 * k)) l.letter k h (omega arith) (filled (values s (at + 1) k) k) (simp r.0)
+    ∙ ap (λ (x : List ℕ). Ok (record { letter = l.letter; numbers = filled x k })) v
 
 pub written_reads_back : (l : Line) (lent : List ℕ) → length l.numbers ≡ 14 → WrittenReadsBack l lent (after_write l 0 lent)
 written_reads_back l lent n = record {

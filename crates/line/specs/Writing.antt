@@ -1,12 +1,10 @@
 -- A line is written: its bytes, and refusal 22 of document 01.
 use Rattle.std.specs.Prelude.{ℕ, zero, suc, ◌+◌, Bool, true, false, cond, not, List, [], ◌∷◌, ◌++◌, length, get_or, take, leb}
-use Rattle.base.specs.Answer.{Answer, figures, refusal, answer, refuse_if, first}
+use Rattle.base.specs.Answer.{Answer, answer, refuse_if, first}
 use Rattle.base.specs.Buffer.{put}
 use Rattle.base.specs.Limits.{largest}
 use Rattle.field.specs.Field.{field_of}
 use Rattle.reading.specs.declared.letter.Line.{Line}
-use Rattle.line.specs.declared.Written.{Written}
-use Rattle.line.specs.declared.Written.TheVariants.{Length, Refused}
 use Rattle.reading.specs.Letter.{byte_of, count_of, width_of}
 
 unfoldable pub fields_of : List ℕ → List ℕ
@@ -33,8 +31,3 @@ write_answer l at room = answer (first (refuse_if 22 (not (writable l at room)) 
 -- the buffer once the line was to be written from `at` on: as lent where it is refused
 unfoldable pub after_write : Line → ℕ → List ℕ → List ℕ
 after_write l at lent = cond (writable l at (length lent)) (put lent at (line_of l)) lent
-
--- what the answer of writing tells
-abbrev pub written_told : Written → Answer
-written_told (Length n) = figures (n ∷ [])
-written_told (Refused n) = refusal n

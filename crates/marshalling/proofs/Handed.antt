@@ -3,8 +3,11 @@ use Prim.Native.Nat.{ℕ}
 use mathlib.Core.Path.{◌≡◌, refl, sym, ap, ◌∙◌}
 use mathlib.Core.Bool.{Bool, true, false, cond}
 use mathlib.Core.List.{List}
+use Rattle.std.specs.Prelude.{Result, Ok, Err}
 use Rattle.base.specs.Answer.{Answer, refusal, Verdict, accepts, refuses, number_of, answer}
-use Rattle.marshalling.specs.Handed.{bad_length, sized, number_handed, Handed}
+use Rattle.base.specs.Refusal.{figure_told}
+use Rattle.base.specs.declared.refusal.Refusal.{Refusal}
+use Rattle.marshalling.specs.Handed.{bad_length, sized, number_handed, Handed, figure_left, OneHanded}
 
 pub handed : {A : Type 0} (after : Answer → A → A) (lent : A) {told a : Answer} → told ≡ a → Handed after a (number_handed told) lent (after told lent)
 handed after lent e = record { number = ap number_handed e; contents = ap (λ (x : Answer). after x lent) e }
@@ -30,3 +33,8 @@ kept written lent e = cc
 pub number_answered : (v : Verdict) (values : List ℕ) → number_of v ≡ number_handed (answer v values)
 number_answered accepts values = refl
 number_answered (refuses n) values = refl
+
+-- one figure handed over, from what its result tells
+pub figure_handed : (a : Result ℕ Refusal) {b : Answer} {r lent left : ℕ} → OneHanded a r lent left → figure_told a ≡ b → Handed figure_left b r lent left
+figure_handed (Ok n) h e = handed_as (record { number = h.number; contents = h.contents }) e
+figure_handed (Err n) h e = handed_as (record { number = h.number; contents = h.contents }) e

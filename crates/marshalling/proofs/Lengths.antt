@@ -50,8 +50,3 @@ permitted_lengths fields types rows levels capacities car errors figures e =
     let third = both_hold _ _ last.0 in
     let first = both_hold _ _ third.0 in
     (eqb-true _ _ first.0, eqb-true _ _ first.1, eqb-true _ _ third.1, tables_right types rows levels capacities last.1)
-
--- tables that were copied are those that were lent
-pub tables_copied : {count : ℕ} {types rows levels capacities : List ℕ} {d : Directory} {ls cs : List ℕ}
-    → d ≡ directory_of count types rows → ls ≡ levels → cs ≡ capacities → tables_of d ls cs ≡ tables_lent count types rows levels capacities
-tables_copied d ls cs = cc

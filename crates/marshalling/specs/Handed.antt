@@ -1,6 +1,8 @@
 -- How an answer is handed to a caller in C or Rust: a number, 0 beside figures and else the refusal's, and what the lent places hold afterwards.
-use Rattle.std.specs.Prelude.{ℕ, ◌≡◌, Bool, cond, List, [], ◌∷◌, eqb, length}
+use Rattle.std.specs.Prelude.{ℕ, ◌≡◌, Bool, cond, List, [], ◌∷◌, eqb, length, Result, Ok, Err}
 use Rattle.base.specs.Answer.{Answer, figures, refusal}
+use Rattle.base.specs.Refusal.{refusal_number}
+use Rattle.base.specs.declared.refusal.Refusal.{Refusal}
 
 -- no refusals of document 01: a lent slice has not the length that is asked for; a byte is no letter
 abbrev pub bad_length : ℕ
@@ -35,3 +37,17 @@ figures_left (refusal n) lent = lent
 pub record Handed {A : Type 0} (after : Answer → A → A) (a : Answer) (r : ℕ) (lent left : A) : Type 0 where
   pub number : r ≡ number_handed a
   pub contents : left ≡ after a lent
+
+-- The same of an operation that has one figure, by its result.
+
+abbrev pub number_given : {A : Type 0} → Result A Refusal → ℕ
+number_given (Ok a) = 0
+number_given (Err e) = refusal_number e
+
+abbrev pub one_left : {A : Type 0} → Result A Refusal → A → A
+one_left (Ok a) lent = a
+one_left (Err e) lent = lent
+
+pub record OneHanded {A : Type 0} (a : Result A Refusal) (r : ℕ) (lent left : A) : Type 0 where
+  pub number : r ≡ number_given a
+  pub contents : left ≡ one_left a lent

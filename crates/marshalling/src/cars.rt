@@ -1,13 +1,12 @@
 // A car handed in as a slice of numbers, and its answer handed over.
 ghost use Rattle.std.specs.Prelude.{◌≡◌, length};
-ghost use Rattle.reading.specs.Letter.{most_fields};
-ghost use Rattle.car.specs.Car.{car_of, probe_car_of, car_told};
+ghost use Rattle.car.specs.Car.{probe_car_of, car_told};
 ghost use Rattle.marshalling.specs.Handed.{Handed, figures_left};
 ghost use Rattle.marshalling.specs.Layout.{probe_fields, figure_count, car_sized};
 
-use crate::{slices, tables};
-use car::{Car, CarAnswer, ProbeCar};
-use heating::Density15;
+use crate::tables;
+use base::Refusal;
+use car::{Figures, ProbeCar};
 use probe_spec::ProbeSet;
 
 // How many numbers a probe's car has beside its set, and how many an accepted car shows.
@@ -28,33 +27,9 @@ pub fn car_fits(
 ) -> bool
     ensures { result ≡ car_sized fields types.now rows.now levels.now capacities.now car.now figures.now }
 {
-    if car.len() != fields {
-        return false;
-    }
-    if figures.len() != FIGURES {
-        return false;
-    }
-    tables::tables_fit(types, rows, levels, capacities)
-}
-
-// A car by the fourteen numbers of its C line.
-pub fn car_of(numbers: &[u32]) -> Car
-    requires { length numbers.now ≡ most_fields }
-    ensures { result ≡ car_of numbers.now }
-{
-    Car {
-        number: numbers[0],
-        kind: numbers[1],
-        grade: numbers[2],
-        stick: numbers[3],
-        count: numbers[4],
-        readings: [numbers[5], numbers[6], numbers[7], numbers[8]],
-        water_level: numbers[9],
-        temperature: numbers[10],
-        density: Density15(numbers[11]),
-        water: numbers[12],
-        impurities: numbers[13],
-    }
+    car.len() == fields
+        && figures.len() == FIGURES
+        && tables::tables_fit(types, rows, levels, capacities)
 }
 
 // A probe's car by its seven numbers and its set.
@@ -75,16 +50,15 @@ pub fn probe_car_of(numbers: &[u32], set: ProbeSet) -> ProbeCar
 }
 
 // Hands a car's answer over: its six figures, or the refusal.
-pub fn hand_over(answer: CarAnswer, figures: &mut [u32]) -> u32
+pub fn hand_over(answer: Result<Figures, Refusal>, figures: &mut [u32]) -> u32
     requires { length figures.old ≡ figure_count }
     ensures { Handed figures_left (car_told answer) result figures.old figures.new }
 {
     match answer {
-        CarAnswer::Accepted(f) => {
-            let six = [f.number, f.level, f.v0, f.v15, f.gross, f.net];
-            slices::copy(&six, figures);
+        Ok(f) => {
+            figures.copy_from_slice(&[f.number, f.level, f.v0, f.v15, f.gross, f.net]);
             0
         }
-        CarAnswer::Refused(number) => number,
+        Err(refusal) => refusal.number(),
     }
 }

@@ -4,8 +4,9 @@ ghost use Rattle.accuracy.specs.Permitted.{errors_of, permitted_told};
 ghost use Rattle.marshalling.specs.Handed.{Handed, figures_left};
 ghost use Rattle.marshalling.specs.Layout.{error_count, permitted_count, permitted_sized};
 
-use crate::{slices, tables};
-use accuracy::{Errors, PermittedError};
+use crate::tables;
+use accuracy::{Errors, Permitted};
+use base::Refusal;
 
 // How many errors are given, and how many numbers are shown: six figures, the limit, and 1 or 0.
 const ERRORS: usize = 6;
@@ -26,16 +27,10 @@ pub fn permitted_fits(
 ) -> bool
     ensures { result ≡ permitted_sized fields types.now rows.now levels.now capacities.now car.now errors.now figures.now }
 {
-    if car.len() != fields {
-        return false;
-    }
-    if errors.len() != ERRORS {
-        return false;
-    }
-    if figures.len() != PERMITTED {
-        return false;
-    }
-    tables::tables_fit(types, rows, levels, capacities)
+    car.len() == fields
+        && errors.len() == ERRORS
+        && figures.len() == PERMITTED
+        && tables::tables_fit(types, rows, levels, capacities)
 }
 
 // The errors by their six numbers.
@@ -54,20 +49,19 @@ pub fn errors_of(numbers: &[u32]) -> Errors
 }
 
 // Hands an answer over: six figures, the limit, and 1 where it is within, 0 where not; or the refusal.
-pub fn hand_over_limit(answer: PermittedError, figures: &mut [u32]) -> u32
+pub fn hand_over_limit(answer: Result<Permitted, Refusal>, figures: &mut [u32]) -> u32
     requires { length figures.old ≡ permitted_count }
     ensures { Handed figures_left (permitted_told answer) result figures.old figures.new }
 {
     match answer {
-        PermittedError::Limit(p) => {
+        Ok(p) => {
             let f = p.figures;
-            let within = slices::one_if(p.within);
-            let eight = [
+            let within = u32::from(p.within);
+            figures.copy_from_slice(&[
                 f.number, f.level, f.v0, f.v15, f.gross, f.net, p.limit, within,
-            ];
-            slices::copy(&eight, figures);
+            ]);
             0
         }
-        PermittedError::Refused(number) => number,
+        Err(refusal) => refusal.number(),
     }
 }

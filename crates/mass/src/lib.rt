@@ -4,7 +4,6 @@
 
 ghost use Rattle.std.specs.Prelude.{◌≡◌, ◌≤◌};
 ghost use Rattle.heating.specs.Limits.{lowest_temperature, highest_temperature, DensityInRange};
-ghost use Rattle.heating.specs.Inner.{Known};
 ghost use Rattle.kilograms.specs.Steps;
 ghost use Rattle.kilograms.specs.Distance.{greatest_volume};
 ghost use Rattle.kilograms.specs.Inner.{
@@ -19,19 +18,19 @@ use heating::{Density15, Oil};
 use kilograms::Masses;
 
 // Step 3: c for a stick; 0 for a stick that there is not.
+#[tactic(auto, unfolding(kilograms::specs::Steps::stick_coefficient))]
 fn stick_coefficient(stick: u32) -> u32
     ensures { result ≡ Steps.stick_coefficient stick }
 {
-    if stick == 1 {
-        return 100;
+    match stick {
+        1 => 100,
+        2 => 121,
+        _ => 0,
     }
-    if stick == 2 {
-        return 121;
-    }
-    0
 }
 
 // Step 3: Vt.
+#[tactic(auto, using(kilograms::proofs::Bounds::hot_volume_most), unfolding(kilograms::specs::Steps::hot_volume))]
 fn hot_volume(v0: u32, c: u32, temperature: u32) -> u32
     requires { (v0 ≤ greatest_volume) × (c ≤ most_coefficient) × (lowest_temperature ≤ temperature) × (temperature ≤ highest_temperature) }
     ensures { result ≡ Steps.hot_volume v0 c temperature }
@@ -41,8 +40,9 @@ fn hot_volume(v0: u32, c: u32, temperature: u32) -> u32
 }
 
 // Step 7: V15.
+#[tactic(auto, using(kilograms::proofs::Bounds::cold_volume_most), unfolding(kilograms::specs::Steps::cold_volume))]
 fn cold_volume(vt: u32, oil: Oil, temperature: u32) -> u32
-    requires { (vt ≤ most_hot_volume) × Known oil × (lowest_temperature ≤ temperature) × (temperature ≤ highest_temperature) }
+    requires { (vt ≤ most_hot_volume) × (lowest_temperature ≤ temperature) × (temperature ≤ highest_temperature) }
     ensures { result ≡ Steps.cold_volume vt oil.density.0 temperature }
 {
     base::round_half_up(
@@ -52,6 +52,7 @@ fn cold_volume(vt: u32, oil: Oil, temperature: u32) -> u32
 }
 
 // Step 8: gross kg.
+#[tactic(auto, using(kilograms::proofs::Bounds::gross_most), unfolding(kilograms::specs::Steps::gross))]
 fn gross_mass(v15: u32, density: Density15) -> u32
     requires { (v15 ≤ most_cold_volume) × DensityInRange density.0 }
     ensures { result ≡ Steps.gross v15 density.0 }
@@ -60,6 +61,7 @@ fn gross_mass(v15: u32, density: Density15) -> u32
 }
 
 // Step 8: net kg.
+#[tactic(auto, using(kilograms::proofs::Bounds::net_le_gross), unfolding(kilograms::specs::Steps::net))]
 fn net_mass(gross: u32, water: u32, impurities: u32) -> u32
     ensures { result ≡ Steps.net gross water impurities }
 {
@@ -68,6 +70,7 @@ fn net_mass(gross: u32, water: u32, impurities: u32) -> u32
 }
 
 // Steps 3 to 8: V15, gross and net from V0.
+#[tactic(auto, using(kilograms::proofs::Bounds::stick_coefficient_most, kilograms::proofs::Bounds::hot_volume_most, kilograms::proofs::Bounds::cold_volume_most))]
 pub fn masses_of(
     v0: u32,
     stick: u32,
@@ -76,7 +79,7 @@ pub fn masses_of(
     water: u32,
     impurities: u32,
 ) -> Masses
-    requires { InRange v0 temperature oil.density.0 water impurities × Known oil }
+    requires { InRange v0 temperature oil.density.0 water impurities }
     ensures { MassesWorked v0 stick temperature oil.density.0 water impurities result }
 {
     let vt = hot_volume(v0, stick_coefficient(stick), temperature);

@@ -2,5 +2,4 @@ pub mod Standing
 pub mod Copied
 pub mod Fitting
 pub mod Whole
-pub mod Clashes
 pub mod Answers

@@ -3,18 +3,15 @@ use Prim.Native.Nat.{ℕ, zero, suc, ◌+◌, ◌-◌, ◌≤◌, ◌<◌}
 use mathlib.Core.Path.{◌≡◌, refl, ap, ap₂, sym, subst, ◌∙◌}
 use mathlib.Core.Bool.{Bool, cond}
 use mathlib.Core.List.{List, [], ◌∷◌, ◌++◌, map}
-use native.Mathlib.Numerals.{add-one}
 use native.Mathlib.Omega.{arith}
 use lib.Dec.{ltb}
 use lib.ListN.{length, get_or, take, drop}
-use lib.Seq.{drop-cons}
 use borrow.Author.Tests.{lt-ltb, le-ltb}
 use Rattle.base.specs.Limits.{most_tables}
 use Rattle.base.specs.Lists.{Each}
 use Rattle.base.proofs.Lists.{length-map}
 use Rattle.table.specs.Table.{Table}
-use Rattle.table.specs.declared.Directory.{Directory}
-use Rattle.table.specs.Layout.{table_at, tables_from, tables_of}
+use Rattle.table.specs.Layout.{tables_from, tables_in}
 use Rattle.merge_held.specs.declared.Held.{Held}
 use Rattle.merge_held.specs.Inner.{most_lines, cars_at, HeldIn}
 use Rattle.holding.specs.Layout.{history_of}
@@ -27,6 +24,10 @@ use Rattle.merge_spec.specs.Merge.{table_kind}
 use Rattle.merge_spec.specs.Inner.{inserted_all, joined, joined_tables, joined_cars, kept_from}
 use Rattle.merge_spec.proofs.Order.{SameKey, each_all, map_all}
 use Rattle.merge_write.specs.Inner.{Stands, car_by, table_text, Within, text_place, WithinPlace, tables_text}
+use Rattle.merge_order.proofs.Rest.{drop_next}
+use Rattle.merge_lines.specs.declared.read.ReadSheet.{ReadSheet}
+use Rattle.merge_lines.proofs.Known.{its_count}
+use Rattle.merge.proofs.Copied.{table, table_copied, table_within}
 use Rattle.merge.specs.Inner.{car_entries, table_entries}
 
 -- An entry gives its key and its place back.
@@ -80,22 +81,22 @@ module _ {A : Type 0} (key : A → ℕ) (at : ℕ → A) (P : ℕ → Type 0) wh
 
 -- The cars.
 
-module _ (f g : List ℕ) where
+module _ (f g : ReadSheet) where
   abbrev CarEntries : List ℕ → List (List ℕ) → Type 0
   CarEntries = Entries number_of (car_by f g) (λ entry. Stands (place_of entry))
 
-  first_place : (n p : ℕ) → p < most_lines → car_by f g (entry_of n (0 + p)) ≡ car_in f p
-  first_place n p h = of_first half_span (omega arith) n p (car_in f) (car_in g) (omega arith)
+  first_place : (n p : ℕ) → p < most_lines → car_by f g (entry_of n (0 + p)) ≡ car_in f.fields.now p
+  first_place n p h = of_first half_span (omega arith) n p (car_in f.fields.now) (car_in g.fields.now) (omega arith)
 
-  second_place : (n p : ℕ) → p < most_lines → car_by f g (entry_of n (half_span + p)) ≡ car_in g p
-  second_place n p h = of_second half_span (omega arith) n p (car_in f) (car_in g) (omega arith)
+  second_place : (n p : ℕ) → p < most_lines → car_by f g (entry_of n (half_span + p)) ≡ car_in g.fields.now p
+  second_place n p h = of_second half_span (omega arith) n p (car_in f.fields.now) (car_in g.fields.now) (omega arith)
 
-  module _ (offset : ℕ) (few : offset ≤ half_span) (fits : (p : ℕ) → p < most_lines → Stands (offset + p)) (c : List ℕ) (at : (n p : ℕ) → p < most_lines → car_by f g (entry_of n (offset + p)) ≡ car_in c p) where
-    entries : (ps : List ℕ) → Each (λ p. p < most_lines) ps → CarEntries (entries_of offset (map number_of (map (car_in c) ps)) ps) (map (car_in c) ps)
+  module _ (offset : ℕ) (few : offset ≤ half_span) (fits : (p : ℕ) → p < most_lines → Stands (offset + p)) (c : ReadSheet) (at : (n p : ℕ) → p < most_lines → car_by f g (entry_of n (offset + p)) ≡ car_in c.fields.now p) where
+    entries : (ps : List ℕ) → Each (λ p. p < most_lines) ps → CarEntries (entries_of offset (map number_of (map (car_in c.fields.now) ps)) ps) (map (car_in c.fields.now) ps)
     entries [] h = record { stand = tt; are = refl; each = tt }
     entries (p ∷ ps) (h, hs) =
         let r = entries ps hs in
-        let n : ℕ = number_of (car_in c p) in
+        let n : ℕ = number_of (car_in c.fields.now p) in
         let e = at n p h in
         record {
           stand = (entry_key n (offset + p) (omega arith) ∙ ap number_of (sym e), r.stand);
@@ -103,22 +104,22 @@ module _ (f g : List ℕ) where
           each = (subst Stands (sym (entry_place n (offset + p) (omega arith))) (fits p h), r.each);
         }
 
-    held_entries : (h : Held) (lines : ℕ) → HeldIn c lines h → CarEntries (car_entries offset h) (kept_from [] (history_of c lines))
-    held_entries h lines i =
+    held_entries : (h : Held) → HeldIn c h → CarEntries (car_entries offset h) (kept_from [] (history_of c.fields.now c.lines))
+    held_entries h i =
         subst (λ (cars : List (List ℕ)). CarEntries (car_entries offset h) cars) i.lines
         (subst (λ (ks : List ℕ). CarEntries (entries_of offset ks (take h.count h.places)) (cars_at c h)) (sym i.numbers) (entries (take h.count h.places) i.places))
 
-  module _ (a b : Held) (n m : ℕ) (i : HeldIn f n a) (j : HeldIn g m b) where
+  module _ (a b : Held) (i : HeldIn f a) (j : HeldIn g b) where
     abbrev pub cars_order : List ℕ
     cars_order = inserted_all key_of (car_entries 0 a) (inserted_all key_of (car_entries half_span b) [])
 
-    cars_ordered : CarEntries cars_order (joined_cars (kept_from [] (history_of f n)) (kept_from [] (history_of g m)))
+    cars_ordered : CarEntries cars_order (joined_cars (kept_from [] (history_of f.fields.now f.lines)) (kept_from [] (history_of g.fields.now g.lines)))
     cars_ordered =
-        in_order number_of (car_by f g) (λ entry. Stands (place_of entry)) (car_entries 0 a) (car_entries half_span b) (kept_from [] (history_of f n)) (kept_from [] (history_of g m))
-        (held_entries 0 (omega arith) (λ p h. omega arith) f first_place a n i)
-        (held_entries half_span (omega arith) (λ p h. omega arith) g second_place b m j)
+        in_order number_of (car_by f g) (λ entry. Stands (place_of entry)) (car_entries 0 a) (car_entries half_span b) (kept_from [] (history_of f.fields.now f.lines)) (kept_from [] (history_of g.fields.now g.lines))
+        (held_entries 0 (omega arith) (λ p h. omega arith) f first_place a i)
+        (held_entries half_span (omega arith) (λ p h. omega arith) g second_place b j)
 
-    pub cars_stand : map (car_by f g) cars_order ≡ joined_cars (kept_from [] (history_of f n)) (kept_from [] (history_of g m))
+    pub cars_stand : map (car_by f g) cars_order ≡ joined_cars (kept_from [] (history_of f.fields.now f.lines)) (kept_from [] (history_of g.fields.now g.lines))
     cars_stand = cars_ordered.are
 
     pub cars_places : Each (λ e. Stands (place_of e)) cars_order
@@ -139,36 +140,19 @@ four_places (suc (suc (suc zero))) h = refl
 four_places (suc (suc (suc (suc zero)))) h = refl
 four_places (suc (suc (suc (suc (suc n))))) h = absurd (omega arith)
 
--- Two sheets by their directories, arrays and bytes: each table's bytes are found in its sheet.
-pub record Tables : Type 0 where
-  pub d : Directory
-  pub l : List ℕ
-  pub c : List ℕ
-  pub s : List ℕ
-  pub e : Directory
-  pub l' : List ℕ
-  pub c' : List ℕ
-  pub r : List ℕ
-  pub size : length d.types ≡ most_tables
-  pub size' : length e.types ≡ most_tables
-  pub few : d.count ≤ most_tables
-  pub few' : e.count ≤ most_tables
-  pub ours : (k : ℕ) → k < d.count → (table_text d s k ≡ text_of (table_lines (table_at d.types d.rows l c k))) × Within d s k
-  pub theirs : (k : ℕ) → k < e.count → (table_text e r k ≡ text_of (table_lines (table_at e.types e.rows l' c' k))) × Within e r k
-
-module _ (x : Tables) where
+module _ (x y : ReadSheet) (size : length x.tables.types ≡ most_tables) (size' : length y.tables.types ≡ most_tables) where
   -- the table at a place: the first sheet's from 0 on, the second's from 4 on
   abbrev our_table : ℕ → Table
-  our_table k = table_at x.d.types x.d.rows x.l x.c k
+  our_table k = table x k
 
   abbrev their_table : ℕ → Table
-  their_table k = table_at x.e.types x.e.rows x.l' x.c' k
+  their_table k = table y k
 
   abbrev table_place : ℕ → Table
   table_place p = cond (ltb p most_tables) (our_table p) (their_table (p - most_tables))
 
   abbrev bytes_place : ℕ → List ℕ
-  bytes_place p = text_place x.d x.s x.e x.r p
+  bytes_place p = text_place x y p
 
   abbrev standing : ℕ → Table
   standing entry = table_place (place_of entry)
@@ -176,15 +160,15 @@ module _ (x : Tables) where
   -- its bytes are found
   pub record Copied (entry : ℕ) : Type 0 where
     pub text : bytes_place (place_of entry) ≡ text_of (table_lines (standing entry))
-    pub within : WithinPlace x.d x.s x.e x.r (place_of entry)
+    pub within : WithinPlace x y (place_of entry)
 
   abbrev TableEntries : List ℕ → List Table → Type 0
   TableEntries = Entries table_kind standing Copied
 
   -- a table of the first sheet, and one of the second
-  module _ (n k : ℕ) (h : k < x.d.count) where
+  module _ (n k : ℕ) (h : k < x.tables.count) where
     low : k < most_tables
-    low = omega (arith, x.few)
+    low = omega (arith, its_count x)
 
     first_table : standing (entry_of n (0 + k)) ≡ our_table k
     first_table = of_first most_tables (omega arith) n k our_table their_table low
@@ -192,17 +176,17 @@ module _ (x : Tables) where
     first_copied : Copied (entry_of n (0 + k))
     first_copied = record {
       text =
-          of_first most_tables (omega arith) n k (table_text x.d x.s) (table_text x.e x.r) low
-          ∙ (x.ours k h).0
+          of_first most_tables (omega arith) n k (table_text x) (table_text y) low
+          ∙ table_copied x k h
           ∙ ap (λ (t : Table). text_of (table_lines t)) (sym first_table);
       within =
-          subst (WithinPlace x.d x.s x.e x.r) (sym (at_first most_tables (omega arith) n k low))
-          (record { place = omega (arith, low); ours = λ _. (x.ours k h).1; theirs = λ q. absurd (omega (arith, low)) });
+          subst (WithinPlace x y) (sym (at_first most_tables (omega arith) n k low))
+          (record { place = omega (arith, low); ours = λ _. table_within x k h; theirs = λ q. absurd (omega (arith, low)) });
     }
 
-  module _ (n k : ℕ) (h : k < x.e.count) where
+  module _ (n k : ℕ) (h : k < y.tables.count) where
     near : k < half_span
-    near = omega (arith, x.few')
+    near = omega (arith, its_count y)
 
     back : most_tables + k - most_tables ≡ k
     back = omega arith
@@ -213,62 +197,63 @@ module _ (x : Tables) where
     second_copied : Copied (entry_of n (most_tables + k))
     second_copied = record {
       text =
-          of_second most_tables (omega arith) n k (table_text x.d x.s) (table_text x.e x.r) near
-          ∙ (x.theirs k h).0
+          of_second most_tables (omega arith) n k (table_text x) (table_text y) near
+          ∙ table_copied y k h
           ∙ ap (λ (t : Table). text_of (table_lines t)) (sym second_table);
       within =
-          subst (WithinPlace x.d x.s x.e x.r) (sym (at_second most_tables (omega arith) n k near))
-          (record { place = omega (arith, x.few'); ours = λ q. absurd (omega arith); theirs = λ _. subst (Within x.e x.r) (sym back) (x.theirs k h).1 });
+          subst (WithinPlace x y) (sym (at_second most_tables (omega arith) n k near))
+          (record { place = omega (arith, its_count y); ours = λ q. absurd (omega arith); theirs = λ _. subst (Within y) (sym back) (table_within y k h) });
     }
 
   -- the tables of one sheet, from table k on
-  module _ (offset : ℕ) (few : offset ≤ most_tables) (t : Directory) (m b : List ℕ) (size : length t.types ≡ most_tables) (most : t.count ≤ most_tables)
-      (at : (n k : ℕ) → k < t.count → standing (entry_of n (offset + k)) ≡ table_at t.types t.rows m b k) (there : (n k : ℕ) → k < t.count → Copied (entry_of n (offset + k))) where
-    table_entries_lem : (n k : ℕ) → k + n ≤ t.count → TableEntries (entries_of offset (take n (drop k t.types)) (from k n)) (tables_from t.types t.rows m b k n)
+  module _ (offset : ℕ) (few : offset ≤ most_tables) (s : ReadSheet) (long : length s.tables.types ≡ most_tables)
+      (at : (n k : ℕ) → k < s.tables.count → standing (entry_of n (offset + k)) ≡ table s k) (there : (n k : ℕ) → k < s.tables.count → Copied (entry_of n (offset + k))) where
+    table_entries_lem : (n k : ℕ) → k + n ≤ s.tables.count → TableEntries (entries_of offset (take n (drop k s.tables.types)) (from k n)) (tables_from s.tables.types s.tables.rows s.tables.levels.now s.tables.capacities.now k n)
     table_entries_lem zero k h = record { stand = tt; are = refl; each = tt }
     table_entries_lem (suc n) k h =
+        let most = its_count s in
         let rest = table_entries_lem n (k + 1) (omega arith) in
-        let kind : ℕ = get_or t.types k 0 in
+        let kind : ℕ = get_or s.tables.types k 0 in
         let q = at kind k (omega arith) in
-        let row : take (suc n) (drop k t.types) ≡ kind ∷ take n (drop (k + 1) t.types) =
-        ap (take (suc n)) (drop-cons t.types k 0 (omega arith) ∙ ap (λ (i : ℕ). kind ∷ drop i t.types) (sym (add-one k))) in
-        subst (λ (ks : List ℕ). TableEntries (entries_of offset ks (from k (suc n))) (tables_from t.types t.rows m b k (suc n))) (sym row)
+        let row : take (suc n) (drop k s.tables.types) ≡ kind ∷ take n (drop (k + 1) s.tables.types) =
+        ap (take (suc n)) (drop_next s.tables.types k (omega (arith, most, long))) in
+        subst (λ (ks : List ℕ). TableEntries (entries_of offset ks (from k (suc n))) (tables_from s.tables.types s.tables.rows s.tables.levels.now s.tables.capacities.now k (suc n))) (sym row)
         (record {
           stand = (entry_key kind (offset + k) (omega arith) ∙ ap table_kind (sym q), rest.stand);
-          are = ap₂ (λ (y : Table) (z : List Table). y ∷ z) q rest.are;
+          are = ap₂ (λ (t : Table) (z : List Table). t ∷ z) q rest.are;
           each = (there kind k (omega arith), rest.each);
         })
 
-    all_entries : TableEntries (table_entries offset t) (tables_of t m b)
+    all_entries : TableEntries (table_entries offset s.tables) (tables_in s.tables)
     all_entries =
-        subst (λ (ps : List ℕ). TableEntries (entries_of offset (take t.count t.types) ps) (tables_of t m b)) (sym (four_places t.count most)) (table_entries_lem t.count 0 (omega arith))
+        subst (λ (ps : List ℕ). TableEntries (entries_of offset (take s.tables.count s.tables.types) ps) (tables_in s.tables)) (sym (four_places s.tables.count (its_count s))) (table_entries_lem s.tables.count 0 (omega arith))
 
   abbrev pub tables_order : List ℕ
-  tables_order = inserted_all key_of (table_entries 0 x.d) (inserted_all key_of (table_entries most_tables x.e) [])
+  tables_order = inserted_all key_of (table_entries 0 x.tables) (inserted_all key_of (table_entries most_tables y.tables) [])
 
-  tables_ordered : TableEntries tables_order (joined_tables (tables_of x.d x.l x.c) (tables_of x.e x.l' x.c'))
+  tables_ordered : TableEntries tables_order (joined_tables (tables_in x.tables) (tables_in y.tables))
   tables_ordered =
-      in_order table_kind standing Copied (table_entries 0 x.d) (table_entries most_tables x.e) (tables_of x.d x.l x.c) (tables_of x.e x.l' x.c')
-      (all_entries 0 (omega arith) x.d x.l x.c x.size x.few first_table first_copied)
-      (all_entries most_tables (omega arith) x.e x.l' x.c' x.size' x.few' second_table second_copied)
+      in_order table_kind standing Copied (table_entries 0 x.tables) (table_entries most_tables y.tables) (tables_in x.tables) (tables_in y.tables)
+      (all_entries 0 (omega arith) x size first_table first_copied)
+      (all_entries most_tables (omega arith) y size' second_table second_copied)
 
   -- as many as the tables together
-  pub tables_counted : length tables_order ≡ length (joined_tables (tables_of x.d x.l x.c) (tables_of x.e x.l' x.c'))
+  pub tables_counted : length tables_order ≡ length (joined_tables (tables_in x.tables) (tables_in y.tables))
   tables_counted = sym (length-map standing tables_order) ∙ ap length tables_ordered.are
 
   -- the bytes are their text
-  texts_are : (order : List ℕ) → Each Copied order → tables_text x.d x.s x.e x.r order ≡ text_of (tables_lines (map standing order))
+  texts_are : (order : List ℕ) → Each Copied order → tables_text x y order ≡ text_of (tables_lines (map standing order))
   unfolding text_of
   texts_are [] h = refl
   texts_are (entry ∷ order) (h, hs) =
-      ap₂ (λ (y z : List ℕ). y ++ z) h.text (texts_are order hs) ∙ sym (text-append (table_lines (standing entry)) (tables_lines (map standing order)))
+      ap₂ (λ (k l : List ℕ). k ++ l) h.text (texts_are order hs) ∙ sym (text-append (table_lines (standing entry)) (tables_lines (map standing order)))
 
-  pub tables_text_lem : tables_text x.d x.s x.e x.r tables_order ≡ text_of (tables_lines (joined_tables (tables_of x.d x.l x.c) (tables_of x.e x.l' x.c')))
+  pub tables_text_lem : tables_text x y tables_order ≡ text_of (tables_lines (joined_tables (tables_in x.tables) (tables_in y.tables)))
   tables_text_lem = texts_are tables_order tables_ordered.each ∙ ap (λ (ts : List Table). text_of (tables_lines ts)) tables_ordered.are
 
-  pub tables_within : Each (λ entry. WithinPlace x.d x.s x.e x.r (place_of entry)) tables_order
+  pub tables_within : Each (λ entry. WithinPlace x y (place_of entry)) tables_order
   tables_within = within_each tables_order tables_ordered.each
     where
-      within_each : (order : List ℕ) → Each Copied order → Each (λ entry. WithinPlace x.d x.s x.e x.r (place_of entry)) order
+      within_each : (order : List ℕ) → Each Copied order → Each (λ entry. WithinPlace x y (place_of entry)) order
       within_each [] h = tt
       within_each (entry ∷ order) (h, hs) = (h.within, within_each order hs)

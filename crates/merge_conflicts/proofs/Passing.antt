@@ -1,87 +1,76 @@
 -- The types of the cars held, one by one.
-use Prim.Native.Nat.{ℕ, ◌+◌, ◌*◌, ◌≤◌, ◌<◌}
+use Prim.Native.Nat.{ℕ, ◌+◌, ◌*◌, ◌<◌}
 use mathlib.Core.Path.{◌≡◌, refl, ap, ap₂, sym, subst, ◌∙◌}
 use mathlib.Core.Bool.{Bool, true, false, not, ◌&&◌, ◌||◌}
 use mathlib.Core.List.{List, ◌∷◌, map}
 use native.Mathlib.Omega.{arith}
-use lib.ListN.{get_or, take, drop, length}
+use lib.ListN.{get_or, drop, length}
 use lib.Seq.{get_or-take, get_or-drop}
 use Rattle.base.specs.Limits.{most_car_lines, most_strikes}
 use Rattle.base.specs.Lists.{Each}
 use Rattle.holding.specs.Layout.{line_places, line_numbers}
 use Rattle.table.specs.Table.{unknown}
-use Rattle.table.specs.declared.Directory.{Directory}
-use Rattle.table.specs.Layout.{tables_of}
-use Rattle.table.specs.Inner.{Good}
+use Rattle.table.specs.declared.Tables.{Tables}
+use Rattle.table.specs.Layout.{tables_in}
+use Rattle.table.specs.Inner.{GoodTables}
 use Rattle.table.proofs.Arrays.{types_known}
 use Rattle.merge_spec.specs.Held.{kind_of}
 use Rattle.merge_spec.specs.Merge.{type_elsewhere}
 use Rattle.merge_order.specs.Inner.{car_in}
+use Rattle.merge_order.proofs.Rest.{drop_next}
 use Rattle.merge_conflicts.specs.Inner.{only_there}
-use Rattle.merge_order.proofs.Rest.{rest, rest_all, rest_next, rest_none}
 
 not_twice : (b : Bool) → not (not b) ≡ b
 not_twice true = refl
 not_twice false = refl
 
--- a type that one directory lacks and the other has, by their tables
-elsewhere_is : (d e : Directory) (l c m b : List ℕ) → Good d l c → Good e m b → (kind : ℕ)
-    → only_there d e kind ≡ (unknown kind (tables_of d l c) && not (unknown kind (tables_of e m b)))
-elsewhere_is d e l c m b g h kind =
+-- a type that one sheet's tables lack and the other's have
+elsewhere_is : (t u : Tables) → GoodTables t → GoodTables u → (kind : ℕ)
+    → only_there t u kind ≡ (unknown kind (tables_in t) && not (unknown kind (tables_in u)))
+elsewhere_is t u g h kind =
     ap₂ (λ (x y : Bool). not x && y) (types_known g kind) (types_known h kind)
-    ∙ ap (λ (x : Bool). x && not (unknown kind (tables_of e m b))) (not_twice (unknown kind (tables_of d l c)))
+    ∙ ap (λ (x : Bool). x && not (unknown kind (tables_in u))) (not_twice (unknown kind (tables_in t)))
 
-module _ (d e : Directory) (fields places : List ℕ) (count : ℕ) where
-  -- what the cars at some places tell, with the tables of the two directories
-  abbrev told : List ℕ → List ℕ → List ℕ → List ℕ → List ℕ → Bool
-  told l c m b x = type_elsewhere (tables_of d l c) (tables_of e m b) (map (car_in fields) x)
+module _ (t u : Tables) (fields : List ℕ) where
+  -- what the cars at some places tell
+  abbrev told : List ℕ → Bool
+  told places = type_elsewhere (tables_in t) (tables_in u) (map (car_in fields) places)
 
-  pub record Passing (i : ℕ) : Type 0 where
-    pub within : i ≤ count
-    pub below : Each (λ p. p < most_car_lines + most_strikes) (rest places count i)
-    pub same : (l c m b : List ℕ) → Good d l c → Good e m b → told l c m b (take count places) ≡ told l c m b (rest places count i)
+  -- the third number of the line at a place
+  pub its_kind : (p : ℕ) → get_or fields (line_places * p + 2) 0 ≡ kind_of (car_in fields p)
+  its_kind p =
+      sym (get_or-drop 1 (line_numbers fields p) 1 0
+      ∙ get_or-take line_places (drop (line_places * p) fields) 2 0 (omega arith)
+      ∙ get_or-drop (line_places * p) fields 2 0)
 
-  pub passing_first : Each (λ p. p < most_car_lines + most_strikes) (take count places) → Passing 0
-  passing_first h = record {
-    within = omega arith;
-    below = subst (Each (λ p. p < most_car_lines + most_strikes)) (sym (rest_all places count)) h;
-    same = λ l c m b g k. ap (told l c m b) (sym (rest_all places count));
-  }
+  -- the cars from place i on tell of all
+  pub record Passing (places : List ℕ) (i : ℕ) : Type 0 where
+    pub below : Each (λ p. p < most_car_lines + most_strikes) (drop i places)
+    pub same : GoodTables t → GoodTables u → told places ≡ told (drop i places)
 
-  module _ (i : ℕ) (h : i < count) (there : count ≤ length places) (p : Passing i) where
+  module _ (places : List ℕ) (i : ℕ) (h : i < length places) (p : Passing places i) where
     abbrev place : ℕ
     place = get_or places i 0
 
-    next : rest places count i ≡ place ∷ rest places count (i + 1)
-    next = rest_next places count i h there
+    next : drop i places ≡ place ∷ drop (i + 1) places
+    next = drop_next places i h
 
-    below_next : Each (λ p. p < most_car_lines + most_strikes) (place ∷ rest places count (i + 1))
+    below_next : Each (λ p. p < most_car_lines + most_strikes) (place ∷ drop (i + 1) places)
     below_next = subst (Each (λ p. p < most_car_lines + most_strikes)) next p.below
 
     pub place_low : place < most_car_lines + most_strikes
     place_low = below_next.0
 
-    pub its_kind : get_or fields (line_places * place + 2) 0 ≡ kind_of (car_in fields place)
-    its_kind =
-        sym (get_or-drop 1 (line_numbers fields place) 1 0
-        ∙ get_or-take line_places (drop (line_places * place) fields) 2 0 (omega arith)
-        ∙ get_or-drop (line_places * place) fields 2 0)
-
     -- by whether the car's type is only there
-    same_by : (l c m b : List ℕ) → Good d l c → Good e m b → (t : Bool) → t ≡ only_there d e (kind_of (car_in fields place))
-        → told l c m b (take count places) ≡ (t || told l c m b (rest places count (i + 1)))
-    same_by l c m b g k t q =
-        p.same l c m b g k
-        ∙ ap (told l c m b) next
-        ∙ ap (λ (x : Bool). x || told l c m b (rest places count (i + 1))) (sym (q ∙ elsewhere_is d e l c m b g k (kind_of (car_in fields place))))
+    same_by : GoodTables t → GoodTables u → (b : Bool) → b ≡ only_there t u (get_or fields (line_places * place + 2) 0)
+        → told places ≡ (b || told (drop (i + 1) places))
+    same_by g k b q =
+        p.same g k
+        ∙ ap told next
+        ∙ ap (λ (x : Bool). x || told (drop (i + 1) places)) (sym (q ∙ ap (only_there t u) (its_kind place) ∙ elsewhere_is t u g k (kind_of (car_in fields place))))
 
-    pub passing_hit : true ≡ only_there d e (kind_of (car_in fields place))
-        → (l c m b : List ℕ) → Good d l c → Good e m b → true ≡ told l c m b (take count places)
-    passing_hit q l c m b g k = sym (same_by l c m b g k true q)
+    pub passing_hit : true ≡ only_there t u (get_or fields (line_places * place + 2) 0) → GoodTables t → GoodTables u → true ≡ told places
+    passing_hit q g k = sym (same_by g k true q)
 
-    pub passing_miss : false ≡ only_there d e (kind_of (car_in fields place)) → Passing (i + 1)
-    passing_miss q = record { within = omega arith; below = below_next.1; same = λ l c m b g k. same_by l c m b g k false q }
-
-  pub passing_last : (i : ℕ) → count ≤ i → Passing i → (l c m b : List ℕ) → Good d l c → Good e m b
-      → false ≡ told l c m b (take count places)
-  passing_last i h p l c m b g k = sym (p.same l c m b g k ∙ ap (told l c m b) (rest_none places count i h))
+    pub passing_miss : false ≡ only_there t u (get_or fields (line_places * place + 2) 0) → Passing places (i + 1)
+    passing_miss q = record { below = below_next.1; same = λ g k. same_by g k false q }

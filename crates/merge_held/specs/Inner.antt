@@ -8,6 +8,7 @@ use Rattle.holding.specs.Layout.{history_of}
 use Rattle.merge_spec.specs.Held.{number_of}
 use Rattle.merge_spec.specs.Inner.{kept_from}
 use Rattle.merge_order.specs.Inner.{car_in}
+use Rattle.merge_lines.specs.declared.read.ReadSheet.{ReadSheet}
 use Rattle.merge_held.specs.declared.Held.{Held}
 
 -- how many lines stand behind the tables at most
@@ -28,12 +29,13 @@ one_more numbers number l x = cond (leb most_cars (length numbers) || outside 1 
 abbrev pub one_less : List ℕ → ℕ → List ℕ → List ℕ
 one_less numbers number l = cond (member number numbers) (remove_at (position number numbers) l) l
 
--- the cars held, one after another
-abbrev pub cars_at : List ℕ → Held → List (List ℕ)
-cars_at fields h = map (car_in fields) (take h.count h.places)
+-- the cars held on a sheet, one after another
+abbrev pub cars_at : ReadSheet → Held → List (List ℕ)
+cars_at s h = map (car_in s.fields.now) (take h.count h.places)
 
-pub record HeldIn (fields : List ℕ) (n : ℕ) (h : Held) : Type 0 where
+-- they are those that the lines of the sheet keep
+pub record HeldIn (s : ReadSheet) (h : Held) : Type 0 where
   pub few : h.count ≤ most_cars
-  pub lines : cars_at fields h ≡ kept_from [] (history_of fields n)
-  pub numbers : take h.count h.numbers ≡ map number_of (cars_at fields h)
+  pub lines : cars_at s h ≡ kept_from [] (history_of s.fields.now s.lines)
+  pub numbers : take h.count h.numbers ≡ map number_of (cars_at s h)
   pub places : Each (λ p. p < most_lines) (take h.count h.places)

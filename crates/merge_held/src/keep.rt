@@ -11,13 +11,7 @@ use train_strike::{close_up, place_of};
 fn turned_away(numbers: &[u32; MOST_CARS], count: usize, number: u32) -> bool
     ensures { result ≡ (outside 1 largest number || member number (take count numbers.now)) }
 {
-    if number < 1 {
-        return true;
-    }
-    if LARGEST < number {
-        return true;
-    }
-    base::holds(numbers, count, number)
+    number < 1 || LARGEST < number || base::holds(numbers, count, number)
 }
 
 // A C line: its car is kept behind the first `count`, unless 9, 10 or 11 turns it away. Answers how many there are then.
@@ -33,10 +27,7 @@ pub fn enter(
         × (take result places.new ≡ one_more (take count numbers.old) number (take count places.old) place)
         × Rows numbers.new places.new result }
 {
-    if MOST_CARS <= count {
-        return count;
-    }
-    if turned_away(numbers, count, number) {
+    if MOST_CARS <= count || turned_away(numbers, count, number) {
         return count;
     }
     numbers[count] = number;

@@ -1,11 +1,11 @@
 // The cars that a sheet still holds behind its last line, by the numbers of its C and K lines.
 #![tactic(auto)]
 
-ghost use Rattle.std.specs.Prelude.{◌≤◌};
-ghost use Rattle.merge_held.specs.Inner.{most_lines, HeldIn};
+ghost use Rattle.merge_held.specs.Inner.{HeldIn};
 
 use base::MOST_CARS;
-use holding::{CAR_MARK, HISTORY_NUMBERS, LINE_PLACES};
+use holding::{CAR_MARK, LINE_PLACES};
+use merge_lines::ReadSheet;
 
 mod keep; // keep.rt: a car kept or taken out, in two arrays
 
@@ -17,25 +17,21 @@ pub struct Held {
     pub count: usize,
 }
 
-// The cars held of the first n lines behind the tables, whose numbers stand in `fields`.
-pub fn held_cars(fields: &[u32; HISTORY_NUMBERS], n: usize) -> Held
-    requires { n ≤ most_lines }
-    ensures { HeldIn fields.now n result }
+// The cars held behind the last line of a sheet.
+pub fn held_cars(sheet: &ReadSheet<'_>) -> Held
+    ensures { HeldIn sheet.now result }
 {
     let mut numbers = [0u32; MOST_CARS];
     let mut places = [0u32; MOST_CARS];
-    let mut count: usize = 0;
-    let mut i: usize = 0;
-    while i < n {
-        let mark = fields[LINE_PLACES * i];
-        let number = fields[LINE_PLACES * i + 1];
-        let is_car = mark == CAR_MARK;
+    let mut count = 0;
+    for i in 0..sheet.lines {
+        let number = sheet.fields[LINE_PLACES * i + 1];
+        let is_car = sheet.fields[LINE_PLACES * i] == CAR_MARK;
         if is_car {
             count = keep::enter(&mut numbers, &mut places, count, number, i as u32);
         } else {
             count = keep::strike(&mut numbers, &mut places, count, number);
         }
-        i += 1;
     }
     Held {
         numbers,

@@ -16,7 +16,7 @@ use Rattle.grammar.specs.Grammar.{enters, sheet_text, WholeSheet}
 use Rattle.grammar.specs.Sheet.{SheetRead, sheet_of, whole}
 use Rattle.grammar.proofs.ByGrammar.{by_grammar}
 use Rattle.grammar.proofs.Passed.{few_accepted}
-use Rattle.merge_spec.specs.declared.MergeReply.{MergeReply}
+use Rattle.merge_spec.specs.Reply.{MergeReply}
 use Rattle.merge_spec.specs.Order.{In, Rising, Joined}
 use Rattle.merge_spec.specs.Held.{number_of, kind_of}
 use Rattle.merge_spec.specs.Merge.{Half, holds, half_of, table_kind, rows_differ, type_elsewhere, types_together, merge_tests, Merging, refused, merging_by, merging_of, merging_in, least_merge_buffer, OneText, Written, Done, Merges}

@@ -16,7 +16,7 @@ use Rattle.car.specs.Car.{car_tests}
 use Rattle.grammar.specs.Grammar.{enters, sheet_text}
 use Rattle.grammar.specs.Sheet.{SheetRead, refused_at, whole, sheet_of}
 use Rattle.grammar.proofs.ByGrammar.{by_grammar}
-use Rattle.merge_spec.specs.declared.MergeReply.{MergeReply}
+use Rattle.merge_spec.specs.Reply.{MergeReply}
 use Rattle.merge_spec.specs.Held.{number_of, kind_of, cars_held}
 use Rattle.merge_spec.specs.Merge.{half_of, table_kind, rows_differ, type_elsewhere, held_on_both, types_together, merge_tests, Merging, refused, together, merging_by, merging_of, merging_in, least_merge_buffer, OneText, Done, Merges}
 use Rattle.merge_spec.specs.Merged.{ByTwelve, MergeLaws}

@@ -19,7 +19,7 @@ use Rattle.grammar.proofs.ByGrammar.{by_grammar}
 use Rattle.grammar.proofs.Text.{text_within}
 use Rattle.grammar.proofs.Turns.{sheet_proper}
 use Rattle.grammar.proofs.Passed.{few_accepted}
-use Rattle.merge_spec.specs.declared.MergeReply.{MergeReply}
+use Rattle.merge_spec.specs.Reply.{MergeReply}
 use Rattle.merge_spec.specs.Held.{cars_held}
 use Rattle.merge_spec.specs.Merge.{half_of, rows_differ, type_elsewhere, held_on_both, types_together, merge_tests, refused, merging_by, merging_of, least_merge_buffer, OneText, Written, Done, Merges}
 use Rattle.merge_spec.specs.Merged.{MadeOf}

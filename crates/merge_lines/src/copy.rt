@@ -7,10 +7,6 @@ pub fn copy_bytes(out: &mut [u8], at: usize, text: &[u8], from: usize, n: usize)
     requires { (at + n ≤ length out.old) × (from + n ≤ length text.now) }
     ensures { (result ≡ at + n) × (out.new ≡ put out.old at (take n (drop from text.now))) }
 {
-    let mut i: usize = 0;
-    while i < n {
-        out[at + i] = text[from + i];
-        i += 1;
-    }
+    out[at..at + n].copy_from_slice(&text[from..from + n]);
     at + n
 }

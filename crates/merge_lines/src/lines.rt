@@ -1,7 +1,6 @@
 // Lines of a sheet made of their numbers: C and E.
-ghost use Rattle.std.specs.Prelude.{◌≡◌, ◌+◌, ◌<◌, length};
+ghost use Rattle.std.specs.Prelude.{◌≡◌, ◌+◌, ◌<◌};
 ghost use Rattle.base.specs.Limits.{most_car_lines, most_strikes};
-ghost use Rattle.reading.specs.Letter.{most_fields};
 ghost use Rattle.grammar.specs.Grammar.{c_line, e_line};
 ghost use Rattle.merge_order.specs.Inner.{car_in};
 
@@ -10,16 +9,12 @@ use reading::{Letter, Line, MOST_FIELDS};
 
 // Line i behind a sheet's tables, a C line, whose fourteen numbers stand behind its letter.
 pub fn car_line(fields: &[u32; HISTORY_NUMBERS], i: usize) -> Line
-    requires { (i < most_car_lines + most_strikes) × (length (car_in fields.now i) ≡ most_fields) }
+    requires { i < most_car_lines + most_strikes }
     ensures { result ≡ c_line (car_in fields.now i) }
 {
     let start = LINE_PLACES * i + 1;
     let mut numbers = [0u32; MOST_FIELDS];
-    let mut j: usize = 0;
-    while j < MOST_FIELDS {
-        numbers[j] = fields[start + j];
-        j += 1;
-    }
+    numbers.copy_from_slice(&fields[start..start + MOST_FIELDS]);
     Line {
         letter: Letter::Car,
         numbers,

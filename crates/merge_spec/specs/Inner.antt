@@ -8,7 +8,7 @@ use Rattle.base.specs.Numbers.{outside, member}
 use Rattle.base.specs.Total.{selected}
 use Rattle.table.specs.Table.{Table, tables_verdict}
 use Rattle.grammar.specs.Grammar.{TrainLine, enters, strikes, CarNumbers, sheet_text}
-use Rattle.merge_spec.specs.declared.MergeReply.{MergeReply}
+use Rattle.merge_spec.specs.Reply.{MergeReply}
 use Rattle.merge_spec.specs.Order.{In}
 use Rattle.merge_spec.specs.Held.{number_of}
 use Rattle.merge_spec.specs.Merge.{Half, refused_at, holds, table_kind, rows_differ, type_elsewhere, held_on_both}

@@ -1,3 +1,4 @@
+pub mod Reply
 pub mod Order
 pub mod Held
 pub mod Merge

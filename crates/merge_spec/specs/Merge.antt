@@ -11,7 +11,7 @@ use Rattle.table.specs.Table.{Row, Table, unknown, rows_of}
 use Rattle.grammar.specs.Grammar.{enters, sheet_text}
 use Rattle.grammar.specs.Sheet.{SheetRead, sheet_of}
 use Rattle.grammar.specs.Sheet as reading
-use Rattle.merge_spec.specs.declared.MergeReply.{MergeReply}
+use Rattle.merge_spec.specs.Reply.{MergeReply}
 use Rattle.merge_spec.specs.Order.{Joined}
 use Rattle.merge_spec.specs.Held.{number_of, kind_of, cars_held}
 

@@ -12,7 +12,7 @@ use Rattle.consist.specs.Demand3.{train_from}
 use Rattle.grammar.specs.Grammar.{TrainLine, enters, sheet_text}
 use Rattle.grammar.specs.Sheet.{sheet_of, whole}
 use Rattle.answers.specs.Listing.{items_of}
-use Rattle.merge_spec.specs.declared.MergeReply.{MergeReply}
+use Rattle.merge_spec.specs.Reply.{MergeReply}
 use Rattle.merge_spec.specs.Order.{In, Joined}
 use Rattle.merge_spec.specs.Held.{kind_of, held_number, held_on, cars_held}
 use Rattle.merge_spec.specs.Merge.{table_kind, least_merge_buffer, Merges}

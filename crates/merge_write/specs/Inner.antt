@@ -5,37 +5,36 @@ use Rattle.base.specs.Lists.{Each}
 use Rattle.reading.specs.declared.letter.Letter.TheVariants.{Table as T, Row as R}
 use Rattle.reading.specs.declared.letter.Line.{Line}
 use Rattle.reading.specs.Letter.{width_of}
-use Rattle.table.specs.declared.Directory.{Directory}
 use Rattle.grammar.specs.Text.{text_of}
 use Rattle.grammar.specs.Grammar.{c_line, CarNumbers}
 use Rattle.merge_order.specs.Inner.{half_span, place_of, car_in}
+use Rattle.merge_lines.specs.declared.read.ReadSheet.{ReadSheet}
 
 -- Cars.
 
 -- the car at a place: the first sheet's from 0 on, the second's from 256 on
-abbrev pub car_place : List ℕ → List ℕ → ℕ → List ℕ
-car_place first second p = cond (ltb p half_span) (car_in first p) (car_in second (p - half_span))
+abbrev pub car_place : ReadSheet → ReadSheet → ℕ → List ℕ
+car_place first second p = cond (ltb p half_span) (car_in first.fields.now p) (car_in second.fields.now (p - half_span))
 
 -- a place of a line that its sheet may have
 abbrev pub Stands : ℕ → Type 0
 Stands p = p % half_span < most_car_lines + most_strikes
 
-abbrev pub car_by : List ℕ → List ℕ → ℕ → List ℕ
+abbrev pub car_by : ReadSheet → ReadSheet → ℕ → List ℕ
 car_by first second entry = car_place first second (place_of entry)
 
--- the cars of the first `count` entries, and their lines
-abbrev pub cars_with : List ℕ → List ℕ → List ℕ → ℕ → List (List ℕ)
-cars_with first second order count = map (car_by first second) (take count order)
+-- the cars of entries, and their lines
+abbrev pub cars_with : ReadSheet → ReadSheet → List ℕ → List (List ℕ)
+cars_with first second order = map (car_by first second) order
 
-abbrev pub car_lines : List ℕ → List ℕ → List ℕ → ℕ → List Line
-car_lines first second order count = map c_line (cars_with first second order count)
+abbrev pub car_lines : ReadSheet → ReadSheet → List ℕ → List Line
+car_lines first second order = map c_line (cars_with first second order)
 
 -- what is asked for to write them from `at` on in so many bytes
-pub record CarsReady (first second order : List ℕ) (count at room : ℕ) : Type 0 where
-  pub there : count ≤ length order
-  pub places : Each (λ entry. Stands (place_of entry)) (take count order)
-  pub each : Each CarNumbers (cars_with first second order count)
-  pub space : at + length (text_of (car_lines first second order count)) ≤ room
+pub record CarsReady (first second : ReadSheet) (order : List ℕ) (at room : ℕ) : Type 0 where
+  pub places : Each (λ entry. Stands (place_of entry)) order
+  pub each : Each CarNumbers (cars_with first second order)
+  pub space : at + length (text_of (car_lines first second order)) ≤ room
 
 -- Tables.
 
@@ -48,30 +47,29 @@ start_of rows zero = 0
 start_of rows (suc k) = start_of rows k + table_bytes rows k
 
 -- those bytes
-abbrev pub table_text : Directory → List ℕ → ℕ → List ℕ
-table_text d text k = take (table_bytes d.rows k) (drop (start_of d.rows k) text)
+abbrev pub table_text : ReadSheet → ℕ → List ℕ
+table_text s k = take (table_bytes s.tables.rows k) (drop (start_of s.tables.rows k) s.text.now)
 
 -- table k ends within the text, and it and those before it have no more rows than a table may
-pub record Within (d : Directory) (text : List ℕ) (k : ℕ) : Type 0 where
-  pub rows : (j : ℕ) → j ≤ k → get_or d.rows j 0 ≤ most_rows
-  pub ends : start_of d.rows k + table_bytes d.rows k ≤ length text
+pub record Within (s : ReadSheet) (k : ℕ) : Type 0 where
+  pub rows : (j : ℕ) → j ≤ k → get_or s.tables.rows j 0 ≤ most_rows
+  pub ends : start_of s.tables.rows k + table_bytes s.tables.rows k ≤ length s.text.now
 
 -- of the table at a place, the first sheet's from 0 on, the second's from 4 on
-abbrev pub text_place : Directory → List ℕ → Directory → List ℕ → ℕ → List ℕ
-text_place d first e second p = cond (ltb p most_tables) (table_text d first p) (table_text e second (p - most_tables))
+abbrev pub text_place : ReadSheet → ReadSheet → ℕ → List ℕ
+text_place first second p = cond (ltb p most_tables) (table_text first p) (table_text second (p - most_tables))
 
-pub record WithinPlace (d : Directory) (first : List ℕ) (e : Directory) (second : List ℕ) (p : ℕ) : Type 0 where
+pub record WithinPlace (first second : ReadSheet) (p : ℕ) : Type 0 where
   pub place : p < most_tables + most_tables
-  pub ours : p < most_tables → Within d first p
-  pub theirs : most_tables ≤ p → Within e second (p - most_tables)
+  pub ours : p < most_tables → Within first p
+  pub theirs : most_tables ≤ p → Within second (p - most_tables)
 
 -- of all tables of entries, one after another
-abbrev pub tables_text : Directory → List ℕ → Directory → List ℕ → List ℕ → List ℕ
-tables_text d first e second [] = []
-tables_text d first e second (entry ∷ order) = text_place d first e second (place_of entry) ++ tables_text d first e second order
+abbrev pub tables_text : ReadSheet → ReadSheet → List ℕ → List ℕ
+tables_text first second [] = []
+tables_text first second (entry ∷ order) = text_place first second (place_of entry) ++ tables_text first second order
 
--- what is asked for to copy those of the first `count` entries to the place `at` of so many bytes
-pub record TablesReady (d : Directory) (first : List ℕ) (e : Directory) (second order : List ℕ) (count at room : ℕ) : Type 0 where
-  pub there : count ≤ length order
-  pub within : Each (λ entry. WithinPlace d first e second (place_of entry)) (take count order)
-  pub space : at + length (tables_text d first e second (take count order)) ≤ room
+-- what is asked for to copy those of the entries to the place `at` of so many bytes
+pub record TablesReady (first second : ReadSheet) (order : List ℕ) (at room : ℕ) : Type 0 where
+  pub within : Each (λ entry. WithinPlace first second (place_of entry)) order
+  pub space : at + length (tables_text first second order) ≤ room

@@ -1,15 +1,14 @@
 -- The answer on the permitted error of a car, dipped or probed, from the car's own answer.
 use Prim.Native.Nat.{ℕ}
-use mathlib.Core.Path.{◌≡◌, refl, sym, ap, ◌∙◌}
+use mathlib.Core.Path.{◌≡◌, refl, ap}
 use mathlib.Core.List.{List, []}
 use lib.ListN.{get_or}
+use Rattle.std.specs.Prelude.{Ok}
 use Rattle.base.specs.Answer.{Answer, refuses, first, figures, refusal}
 use Rattle.base.proofs.Answer.{answer_figures, answer_refusal}
 use Rattle.table.specs.Table.{Table}
 use Rattle.car.specs.declared.Figures.{Figures}
 use Rattle.car.specs.declared.Measured.{Measured}
-use Rattle.car.specs.declared.CarAnswer.{CarAnswer}
-use Rattle.car.specs.declared.CarAnswer.TheVariants.{Accepted, Refused}
 use Rattle.car.specs.Measured.{mass, six_figures}
 use Rattle.car.specs.Car.{Intake, measured_of, figures_of, alone_tests, alone_answer, car_told}
 use Rattle.car.specs.Inner.{Passed}
@@ -41,23 +40,19 @@ module _ {Card : Type 0} (card : Card) (ts : List Table) (h : Intake) (errors : 
   whole a p = (only_answer p, shown_right ts h errors p, permitted_close ts h errors p, permitted_in_order ts h errors p, card)
 
   -- the car is refused
-  pub away : {r : CarAnswer} {n : ℕ} → car_told r ≡ alone_answer ts h → r ≡ Refused n → Promised Card ts h errors (refusal n)
+  pub away : {n : ℕ} → refusal n ≡ alone_answer ts h → Promised Card ts h errors (refusal n)
   unfolding alone_answer
-  away {n} e k =
-      let v : first (alone_tests ts h) ≡ refuses n = answer_refusal (first (alone_tests ts h)) (figures_of ts h) (sym (ap car_told k) ∙ e) in
+  away {n} e =
+      let v : first (alone_tests ts h) ≡ refuses n = answer_refusal (first (alone_tests ts h)) (figures_of ts h) e in
       whole (refusal n) (turned_away_lem (car_away ts h errors v))
 
 -- the car is accepted, and m is measured of it
-module _ (ts : List Table) (h : Intake) {r : CarAnswer} (e : car_told r ≡ alone_answer ts h) {six : Figures} (k : r ≡ Accepted six) where
+module _ (ts : List Table) (h : Intake) {six : Figures} (e : car_told (Ok six) ≡ alone_answer ts h) where
   pub accepted_as : {m : Measured} → m ≡ measured_of h → AcceptedAs ts h m six
   unfolding alone_answer
   accepted_as i =
-      let p = answer_figures (first (alone_tests ts h)) (sym (ap car_told k) ∙ e) in
+      let p = answer_figures (first (alone_tests ts h)) e in
       record { accepted = p.0; is = i; shows = ap figures p.1 }
-
-  pub level_shown : six.level ≡ (measured_of h).level
-  unfolding six_figures
-  level_shown = ap (place 1) (accepted_as {m = measured_of h} refl).shows
 
   pub behind : {m : Measured} → m ≡ measured_of h → Passed ts m × SixShown ts m six
   unfolding six_figures mass

@@ -1,75 +1,53 @@
 // The lines of an answer, made and written one after another into a lent buffer.
 #![tactic(auto)]
 
-ghost use Rattle.std.specs.Prelude.{◌≡◌, true, [], ◌∷◌, ◌+◌, ◌≤◌, length};
+ghost use Rattle.std.specs.Prelude.{◌≡◌, true, [], ◌∷◌, ◌++◌, ◌+◌, ◌-◌, ◌≤◌, length, replicate};
 ghost use Rattle.base.specs.Buffer.{put};
 ghost use Rattle.base.specs.Limits.{largest};
-ghost use Rattle.reading.specs.Letter.{width_of};
+ghost use Rattle.base.specs.Refusal.{figure_told, refusal_number};
+ghost use Rattle.reading.specs.Letter.{width_of, most_fields};
 ghost use Rattle.line.specs.Writing.{line_of, writable};
 ghost use Rattle.car.specs.Car.{car_told};
 ghost use Rattle.summing.specs.Inner.{Low};
-ghost use Rattle.train_strike.specs.Told.{strike_told};
 ghost use Rattle.grammar.specs.Text.{text_of};
 ghost use Rattle.answers.specs.Listing.{answer_line, struck_line, totals_line, grade_line, totals_lines, sheet_refused_line, least_buffer};
 ghost use Rattle.printing.specs.Inner.{Closing};
 
-use base::GRADES;
-use car::CarAnswer;
-use line::Written;
+use base::{GRADES, Refusal};
+use car::Figures;
 use reading::{Letter, Line, MOST_FIELDS};
 use summing::{Sums, Totals};
-use train_strike::StrikeAnswer;
 
-// The A or X line of the car of this number.
-pub fn answer_line(number: u32, answer: CarAnswer) -> Line
-    ensures { result ≡ answer_line number (car_told answer) }
+// The line of this letter with these numbers in its first places, and 0 in the others.
+fn line_with(letter: Letter, first: &[u32]) -> Line
+    requires { length first.now ≤ most_fields }
+    ensures { result ≡ record { letter = letter; numbers = first.now ++ replicate (most_fields - length first.now) 0 } }
 {
     let mut numbers = [0u32; MOST_FIELDS];
+    numbers[..first.len()].copy_from_slice(first);
+    Line { letter, numbers }
+}
+
+// The A or X line of the car of this number.
+pub fn answer_line(number: u32, answer: Result<Figures, Refusal>) -> Line
+    ensures { result ≡ answer_line number (car_told answer) }
+{
     match answer {
-        CarAnswer::Accepted(f) => {
-            numbers[0] = f.number;
-            numbers[1] = f.level;
-            numbers[2] = f.v0;
-            numbers[3] = f.v15;
-            numbers[4] = f.gross;
-            numbers[5] = f.net;
-            Line {
-                letter: Letter::CarAccepted,
-                numbers,
-            }
-        }
-        CarAnswer::Refused(n) => {
-            numbers[0] = number;
-            numbers[1] = n;
-            Line {
-                letter: Letter::CarRefused,
-                numbers,
-            }
-        }
+        Ok(f) => line_with(
+            Letter::CarAccepted,
+            &[f.number, f.level, f.v0, f.v15, f.gross, f.net],
+        ),
+        Err(refusal) => line_with(Letter::CarRefused, &[number, refusal.number()]),
     }
 }
 
 // The K or X line of a strike of the number that was typed.
-pub fn struck_line(typed: u32, answer: StrikeAnswer) -> Line
-    ensures { result ≡ struck_line typed (strike_told answer) }
+pub fn struck_line(typed: u32, answer: Result<u32, Refusal>) -> Line
+    ensures { result ≡ struck_line typed (figure_told answer) }
 {
-    let mut numbers = [0u32; MOST_FIELDS];
     match answer {
-        StrikeAnswer::Struck(n) => {
-            numbers[0] = n;
-            Line {
-                letter: Letter::Strike,
-                numbers,
-            }
-        }
-        StrikeAnswer::Refused(n) => {
-            numbers[0] = typed;
-            numbers[1] = n;
-            Line {
-                letter: Letter::CarRefused,
-                numbers,
-            }
-        }
+        Ok(number) => line_with(Letter::Strike, &[number]),
+        Err(refusal) => line_with(Letter::CarRefused, &[typed, refusal.number()]),
     }
 }
 
@@ -78,14 +56,7 @@ fn totals_line(t: Totals) -> Line
     requires { Low t }
     ensures { result ≡ totals_line t }
 {
-    let mut numbers = [0u32; MOST_FIELDS];
-    numbers[0] = t.accepted;
-    numbers[1] = t.gross as u32;
-    numbers[2] = t.net as u32;
-    Line {
-        letter: Letter::Totals,
-        numbers,
-    }
+    line_with(Letter::Totals, &[t.accepted, t.gross as u32, t.net as u32])
 }
 
 // The G line of a grade.
@@ -93,15 +64,10 @@ fn grade_line(grade: u32, t: Totals) -> Line
     requires { Low t }
     ensures { result ≡ grade_line grade t }
 {
-    let mut numbers = [0u32; MOST_FIELDS];
-    numbers[0] = grade;
-    numbers[1] = t.accepted;
-    numbers[2] = t.gross as u32;
-    numbers[3] = t.net as u32;
-    Line {
-        letter: Letter::GradeTotals,
-        numbers,
-    }
+    line_with(
+        Letter::GradeTotals,
+        &[grade, t.accepted, t.gross as u32, t.net as u32],
+    )
 }
 
 // Writes a line that has room from `at` on, and answers the place behind it.
@@ -110,8 +76,8 @@ pub fn append_line(out: &mut [u8], at: usize, text: Line) -> usize
     ensures { (result ≡ at + width_of text.letter) × (out.new ≡ put out.old at (line_of text)) }
 {
     match lettering::write_line_at(out, at, text) {
-        Written::Length(n) => at + n,
-        Written::Refused(_) => at,
+        Ok(width) => at + width,
+        Err(_) => at,
     }
 }
 
@@ -121,31 +87,18 @@ pub fn write_totals(out: &mut [u8], at: usize, sums: Sums) -> usize
     ensures { (result ≡ at + length (text_of (totals_lines sums)))
         × (out.new ≡ put out.old at (text_of (totals_lines sums))) }
 {
-    let all = sums.all;
-    let mut place = append_line(out, at, totals_line(all));
-    let mut i: usize = 0;
-    while i < GRADES {
-        let of_grade = sums.grades[i];
-        place = append_line(out, place, grade_line(i as u32 + 1, of_grade));
-        i += 1;
+    let mut place = append_line(out, at, totals_line(sums.all));
+    for i in 0..GRADES {
+        place = append_line(out, place, grade_line(i as u32 + 1, sums.grades[i]));
     }
     place
 }
 
 // Writes the Z line: the line number and the refusal.
-pub fn write_refused(out: &mut [u8], line: u32, number: u32) -> usize
-    requires { (least_buffer ≤ length out.old) × (line ≤ largest) × (number ≤ largest) }
-    ensures { (result ≡ length (text_of (sheet_refused_line line number ∷ []))) × (out.new ≡ put out.old 0 (text_of (sheet_refused_line line number ∷ []))) }
+pub fn write_refused(out: &mut [u8], line: u32, refusal: Refusal) -> usize
+    requires { (least_buffer ≤ length out.old) × (line ≤ largest) × (refusal_number refusal ≤ largest) }
+    ensures { (result ≡ length (text_of (sheet_refused_line line (refusal_number refusal) ∷ []))) × (out.new ≡ put out.old 0 (text_of (sheet_refused_line line (refusal_number refusal) ∷ []))) }
 {
-    let mut numbers = [0u32; MOST_FIELDS];
-    numbers[0] = line;
-    numbers[1] = number;
-    append_line(
-        out,
-        0,
-        Line {
-            letter: Letter::SheetRefused,
-            numbers,
-        },
-    )
+    let text = line_with(Letter::SheetRefused, &[line, refusal.number()]);
+    append_line(out, 0, text)
 }

@@ -10,11 +10,7 @@ use Rattle.base.specs.Answer.{Test, Verdict, accepts, refuses, first, figures, r
 use Rattle.base.proofs.Answer.{answer_figures, answer_refusal, refuses-append, accepted-append}
 use Rattle.probe_spec.specs.declared.ProbeSet.{ProbeSet}
 use Rattle.probe_spec.specs.declared.SetTenths.{SetTenths}
-use Rattle.probe_spec.specs.declared.ConvertedSet.{ConvertedSet}
-use Rattle.probe_spec.specs.declared.ConvertedSet.TheVariants as set
-use Rattle.probe_spec.specs.declared.Converted.{Converted}
-use Rattle.probe_spec.specs.declared.Converted.TheVariants.{Tenths, Refused}
-use Rattle.probe_spec.specs.Tenths.{no_number, tenths_of, float_tests, tenths_answer, set_tests, set_answer, converted_told, set_told}
+use Rattle.probe_spec.specs.Tenths.{no_number, tenths_of, float_tests, tenths_answer, set_tests, set_answer}
 use Rattle.probe_spec.specs.Inner.{SetShown}
 
 -- By the two tests.
@@ -33,15 +29,15 @@ shown x e h = rw (e, le-ltb largest (tenths_of x) h)
 
 -- A set, number by number.
 
-number_shown : (x : Float) {r : Converted} {n : ℕ} → converted_told r ≡ tenths_answer x → r ≡ Tenths n → (first (float_tests x) ≡ accepts) × (n ≡ tenths_of x)
+number_shown : (x : Float) {n : ℕ} → figures (n ∷ []) ≡ tenths_answer x → (first (float_tests x) ≡ accepts) × (n ≡ tenths_of x)
 unfolding tenths_answer
-number_shown x {r} {n} e h =
-    let p = answer_figures (first (float_tests x)) (sym (ap converted_told h) ∙ e) in
+number_shown x e =
+    let p = answer_figures (first (float_tests x)) e in
     (p.0, let q = p.1 in cc)
 
-number_refused : (x : Float) {r : Converted} {n : ℕ} → converted_told r ≡ tenths_answer x → r ≡ Refused n → first (float_tests x) ≡ refuses n
+number_refused : (x : Float) {n : ℕ} → refusal n ≡ tenths_answer x → first (float_tests x) ≡ refuses n
 unfolding tenths_answer
-number_refused x e h = answer_refusal (first (float_tests x)) (tenths_of x ∷ []) (sym (ap converted_told h) ∙ e)
+number_refused x e = answer_refusal (first (float_tests x)) (tenths_of x ∷ []) e
 
 module _ (s : ProbeSet) where
   abbrev values : List ℕ
@@ -54,32 +50,29 @@ module _ (s : ProbeSet) where
   abbrev later : List Test
   later = float_tests s.temperature ++ float_tests s.density
 
-  module _ {r : Converted} (e : converted_told r ≡ tenths_answer s.level) where
-    pub level_away : {n : ℕ} → r ≡ Refused n → refusal n ≡ set_answer s
+  pub level_away : {n : ℕ} → refusal n ≡ tenths_answer s.level → refusal n ≡ set_answer s
+  unfolding set_tests
+  level_away e = by_verdict (refuses-append later (float_tests s.level) (number_refused s.level e))
+
+  module _ {l : ℕ} (e : figures (l ∷ []) ≡ tenths_answer s.level) where
+    past_level : first (set_tests s) ≡ first later
     unfolding set_tests
-    level_away h = by_verdict (refuses-append later (float_tests s.level) (number_refused s.level e h))
+    past_level = accepted-append later (float_tests s.level) (number_shown s.level e).0
 
-    module _ {l : ℕ} (h : r ≡ Tenths l) where
-      past_level : first (set_tests s) ≡ first later
-      unfolding set_tests
-      past_level = accepted-append later (float_tests s.level) (number_shown s.level e h).0
+    pub temperature_away : {n : ℕ} → refusal n ≡ tenths_answer s.temperature → refusal n ≡ set_answer s
+    temperature_away f = by_verdict (past_level ∙ refuses-append (float_tests s.density) (float_tests s.temperature) (number_refused s.temperature f))
 
-      module _ {q : Converted} (f : converted_told q ≡ tenths_answer s.temperature) where
-        pub temperature_away : {n : ℕ} → q ≡ Refused n → refusal n ≡ set_answer s
-        temperature_away i = by_verdict (past_level ∙ refuses-append (float_tests s.density) (float_tests s.temperature) (number_refused s.temperature f i))
+    module _ {t : ℕ} (f : figures (t ∷ []) ≡ tenths_answer s.temperature) where
+      past_temperature : first (set_tests s) ≡ first (float_tests s.density)
+      past_temperature = past_level ∙ accepted-append (float_tests s.density) (float_tests s.temperature) (number_shown s.temperature f).0
 
-        module _ {t : ℕ} (i : q ≡ Tenths t) where
-          past_temperature : first (set_tests s) ≡ first (float_tests s.density)
-          past_temperature = past_level ∙ accepted-append (float_tests s.density) (float_tests s.temperature) (number_shown s.temperature f i).0
+      pub density_away : {n : ℕ} → refusal n ≡ tenths_answer s.density → refusal n ≡ set_answer s
+      density_away g = by_verdict (past_temperature ∙ number_refused s.density g)
 
-          module _ {p : Converted} (g : converted_told p ≡ tenths_answer s.density) where
-            pub density_away : {n : ℕ} → p ≡ Refused n → refusal n ≡ set_answer s
-            density_away j = by_verdict (past_temperature ∙ number_refused s.density g j)
-
-            pub all_shown : {d : ℕ} → p ≡ Tenths d → figures (l ∷ t ∷ d ∷ []) ≡ set_answer s
-            all_shown j =
-                rw ((number_shown s.level e h).1, (number_shown s.temperature f i).1, (number_shown s.density g j).1)
-                (by_verdict (past_temperature ∙ (number_shown s.density g j).0))
+      pub all_shown : {d : ℕ} → figures (d ∷ []) ≡ tenths_answer s.density → figures (l ∷ t ∷ d ∷ []) ≡ set_answer s
+      all_shown g =
+          rw ((number_shown s.level e).1, (number_shown s.temperature f).1, (number_shown s.density g).1)
+          (by_verdict (past_temperature ∙ (number_shown s.density g).0))
 
 -- What a set's answer was made of.
 
@@ -87,11 +80,11 @@ set_verdict : (s : ProbeSet) → set_answer s ≡ answer (first (set_tests s)) (
 unfolding set_answer
 set_verdict s = refl
 
-pub set_refused : (s : ProbeSet) {r : ConvertedSet} {n : ℕ} → set_told r ≡ set_answer s → r ≡ set.Refused n → first (set_tests s) ≡ refuses n
-set_refused s e h = answer_refusal (first (set_tests s)) (values s) (sym (ap set_told h) ∙ e ∙ set_verdict s)
+pub set_refused : (s : ProbeSet) {n : ℕ} → refusal n ≡ set_answer s → first (set_tests s) ≡ refuses n
+set_refused s e = answer_refusal (first (set_tests s)) (values s) (e ∙ set_verdict s)
 
-pub set_shown : (s : ProbeSet) {r : ConvertedSet} {t : SetTenths} → set_told r ≡ set_answer s → r ≡ set.Tenths t → SetShown s t
-set_shown s {r} {t} e h =
-    let p = answer_figures (first (set_tests s)) (sym (ap set_told h) ∙ e ∙ set_verdict s) in
+pub set_shown : (s : ProbeSet) {t : SetTenths} → figures (t.level ∷ t.temperature ∷ t.density.0 ∷ []) ≡ set_answer s → SetShown s t
+set_shown s e =
+    let p = answer_figures (first (set_tests s)) (e ∙ set_verdict s) in
     let q = p.1 in
     record { none = p.0; level = cc; temperature = cc; density = cc }

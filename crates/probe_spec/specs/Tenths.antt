@@ -1,18 +1,17 @@
 -- A probe's numbers in tenths: refusals 31 and 32 of document 02, for every f32. A float is not a number, an infinity, or the number num / den, which is
 -- m * 2 ^ e, with a sign.
-use Rattle.std.specs.Prelude.{ℕ, ◌*◌, Bool, true, ◌&&◌, List, [], ◌∷◌, ◌++◌, ltb, Float}
+use Rattle.std.specs.Prelude.{ℕ, ◌*◌, Bool, true, ◌&&◌, List, [], ◌∷◌, ◌++◌, ltb, Float, Result}
 use Rattle.std.specs.Float.{nan, inf, fin}
 use Rattle.std.specs.Float.Ieee.Positive.{num, den}
 use Rattle.base.specs.Limits.{largest, tenths}
 use Rattle.base.specs.Rounding.{rounded}
-use Rattle.base.specs.Answer.{Test, refuse_if, first, Answer, figures, refusal, answer}
+use Rattle.base.specs.Answer.{Test, refuse_if, first, Answer, answer}
+use Rattle.base.specs.Refusal.{told}
+use Rattle.base.specs.declared.refusal.Refusal.{Refusal}
 use Rattle.probe_spec.specs.declared.ProbeReading.{ProbeReading}
 use Rattle.probe_spec.specs.declared.ProbeReading.TheVariants.{Level, Temperature, Density}
 use Rattle.probe_spec.specs.declared.ProbeSet.{ProbeSet}
-use Rattle.probe_spec.specs.declared.Converted.{Converted}
-use Rattle.probe_spec.specs.declared.Converted.TheVariants as converted
-use Rattle.probe_spec.specs.declared.ConvertedSet.{ConvertedSet}
-use Rattle.probe_spec.specs.declared.ConvertedSet.TheVariants as set
+use Rattle.probe_spec.specs.declared.SetTenths.{SetTenths}
 
 -- 31: negative, infinite or not a number; minus zero, where m is 0, is zero
 unfoldable pub no_number : Float → Bool
@@ -47,11 +46,6 @@ set_tests s = float_tests s.level ++ (float_tests s.temperature ++ float_tests s
 unfoldable pub set_answer : ProbeSet → Answer
 set_answer s = answer (first (set_tests s)) (tenths_of s.level ∷ tenths_of s.temperature ∷ tenths_of s.density ∷ [])
 
--- what the code's answers say
-abbrev pub converted_told : Converted → Answer
-converted_told (converted.Tenths n) = figures (n ∷ [])
-converted_told (converted.Refused n) = refusal n
-
-abbrev pub set_told : ConvertedSet → Answer
-set_told (set.Tenths t) = figures (t.level ∷ t.temperature ∷ t.density.0 ∷ [])
-set_told (set.Refused n) = refusal n
+-- what the code's answer to a set says
+abbrev pub set_told : Result SetTenths Refusal → Answer
+set_told = told (λ t. t.level ∷ t.temperature ∷ t.density.0 ∷ [])

@@ -26,17 +26,3 @@ pub struct SetTenths {
     pub temperature: u32,
     pub density: Density15,
 }
-
-// Tenths, or the refusal.
-#[derive(Clone, Copy)]
-pub enum Converted {
-    Tenths(u32),
-    Refused(u32),
-}
-
-// A set in tenths, or the refusal.
-#[derive(Clone, Copy)]
-pub enum ConvertedSet {
-    Tenths(SetTenths),
-    Refused(u32),
-}

@@ -4,6 +4,7 @@ use mathlib.Core.Path.{◌≡◌, ap, sym, ◌∙◌}
 use mathlib.Core.Logic.{◌⊎◌, inl, ⊎_elim}
 use mathlib.Core.Bool.{true}
 use mathlib.Core.List.{List}
+use Rattle.std.specs.Prelude.{Some}
 use native.Mathlib.Nat.{add-zero}
 use native.Mathlib.Omega.{arith}
 use lib.ListN.{get_or}
@@ -15,7 +16,6 @@ use Rattle.field.specs.declared.Seen.TheVariants.{Blank, Digits}
 use Rattle.field.specs.Field.{column_of, glyph_of, seen_to, finish, field_at}
 use Rattle.field.proofs.RoundTrip.{seen_of, one_more_lem, glyph_more}
 use Rattle.quick.specs.declared.Four.{Four}
-use Rattle.quick.specs.Number.{bare_number}
 use Rattle.quick.specs.Inner.{first_four, last_four, DigitsOf, past_two, past_four, ShortOf, HighOf}
 
 -- the column of m's last digit: a space where m is 0
@@ -67,18 +67,18 @@ digits_seen f u n l h g =
 -- The whole field.
 
 module _ (s : List ℕ) (at : ℕ) (f l : Four) (ef : f ≡ first_four s at) (el : l ≡ last_four s at) (z : get_or s at 0 ≡ 32) (a : eqb f.a 32 ≡ true) (b : eqb f.b 32 ≡ true) where
-  read : (x : Seen) (n : ℕ) → past_two Blank f.c f.d ≡ x → past_four x l ≡ Digits n → n ≡ bare_number (field_at s at)
+  read : (x : Seen) (n : ℕ) → past_two Blank f.c f.d ≡ x → past_four x l ≡ Digits n → Some n ≡ field_at s at
   unfolding field_at seen_to
   read x n e g =
       let four : past_four Blank (first_four s at) ≡ x = ap (λ (f : Four). past_four Blank f) (sym ef) ∙ simp (a, b) e in
       sym
-      (ap (λ (b : ℕ). bare_number (finish (past_four (past_four (column_of Blank b) (first_four s at)) (last_four s at)))) (ap (λ (i : ℕ). get_or s i 0) (add-zero at) ∙ z)
-      ∙ ap (λ (y : Seen). bare_number (finish (past_four y (last_four s at)))) four
-      ∙ ap (λ (l : Four). bare_number (finish (past_four x l))) (sym el)
-      ∙ ap (λ (y : Seen). bare_number (finish y)) g)
+      (ap (λ (b : ℕ). finish (past_four (past_four (column_of Blank b) (first_four s at)) (last_four s at))) (ap (λ (i : ℕ). get_or s i 0) (add-zero at) ∙ z)
+      ∙ ap (λ (y : Seen). finish (past_four y (last_four s at))) four
+      ∙ ap (λ (l : Four). finish (past_four x l)) (sym el)
+      ∙ ap (λ (y : Seen). finish y) g)
 
-  pub short_read : (n : ℕ) → eqb f.c 32 ≡ true → eqb f.d 32 ≡ true → ShortOf l n → n ≡ bare_number (field_at s at)
+  pub short_read : (n : ℕ) → eqb f.c 32 ≡ true → eqb f.d 32 ≡ true → ShortOf l n → Some n ≡ field_at s at
   short_read n c d g = read Blank n (simp (c, d)) g
 
-  pub long_read : (high low : ℕ) → HighOf f.c f.d high → DigitsOf 0 l.a l.b l.c l.d low → 10_000 * high + low ≡ bare_number (field_at s at)
+  pub long_read : (high low : ℕ) → HighOf f.c f.d high → DigitsOf 0 l.a l.b l.c l.d low → Some (10_000 * high + low) ≡ field_at s at
   long_read high low h g = read (Digits high) (10_000 * high + low) h.seen (digits_seen l high low h.some h.most g)

@@ -12,6 +12,13 @@ first_four s at = record { a = get_or s (at + 1) 0; b = get_or s (at + 2) 0; c =
 abbrev pub last_four : List ℕ → ℕ → Four
 last_four s at = record { a = get_or s (at + 5) 0; b = get_or s (at + 6) 0; c = get_or s (at + 7) 0; d = get_or s (at + 8) 0 }
 
+-- m is n, which is not below `least` and stands behind two spaces
+pub record BehindSpaces (a b least n m : ℕ) : Type 0 where
+  pub same : m ≡ n
+  pub enough : least ≤ n
+  pub first : a ≡ 32
+  pub second : b ≡ 32
+
 -- four bytes are the digits of n, which is not below `least`
 pub record DigitsOf (least a b c d n : ℕ) : Type 0 where
   pub digits : (48 ≤ a) × (a ≤ 57) × (48 ≤ b) × (b ≤ 57) × (48 ≤ c) × (c ≤ 57) × (48 ≤ d) × (d ≤ 57)

@@ -1,17 +1,9 @@
 // The number in a field, read four columns at a time where it has the length that is usual in a row.
 #![tactic(auto)]
 
-ghost use Rattle.std.specs.Prelude.{◌≡◌, false, ◌+◌, ◌≤◌, length};
-ghost use Rattle.base.specs.Limits.{largest};
+ghost use Rattle.std.specs.Prelude.{◌≡◌, ℕ, Some, ◌+◌, ◌≤◌, length};
 ghost use Rattle.field.specs.Field.{columns, field_at};
-ghost use Rattle.quick.specs.Number.{bare_number};
-ghost use Rattle.quick.specs.Inner.{first_four, last_four, DigitsOf, ShortOf, HighOf};
-
-use base::LARGEST;
-use field::Field;
-
-// What is answered where there is no number.
-const NO_NUMBER: u32 = LARGEST + 1;
+ghost use Rattle.quick.specs.Inner.{first_four, last_four, DigitsOf, BehindSpaces, ShortOf, HighOf};
 
 // Four columns.
 #[derive(Clone, Copy)]
@@ -48,148 +40,111 @@ fn last_four(s: &[u8], at: usize) -> Four
     }
 }
 
-// The number of four digits, if it is not below `least`.
-fn four_digits(least: u32, a: u8, b: u8, c: u8, d: u8) -> u32
-    ensures { result ≤ largest → DigitsOf least a b c d result }
-{
-    if 48 <= a && a <= 57 && 48 <= b && b <= 57 && 48 <= c && c <= 57 && 48 <= d && d <= 57 {
-        let n = 1_000 * (a - 48) as u32
-            + 100 * (b - 48) as u32
-            + 10 * (c - 48) as u32
-            + (d - 48) as u32;
-        if least <= n {
-            return n;
-        }
-    }
-    NO_NUMBER
-}
-
-// Whether a column holds no digit.
-fn not_digit(b: u8) -> bool
-    ensures { result ≡ false → (48 ≤ b) × (b ≤ 57) }
-{
-    if b < 48 {
-        return true;
-    }
-    57 < b
-}
-
 // The digit that a column holds.
 fn digit(b: u8) -> u32
     requires { (48 ≤ b) × (b ≤ 57) }
     ensures { (b ≡ 48 + result) × (result ≤ 9) }
 {
-    (b - 48) as u32
+    u32::from(b - b'0')
+}
+
+// The number of four digits, if it is not below `least`. That all four are digits is asked first: a digit that is an Option of its own
+// was slower.
+fn four_digits(least: u32, a: u8, b: u8, c: u8, d: u8) -> Option<u32>
+    ensures { (n : ℕ) → result ≡ Some n → DigitsOf least a b c d n }
+{
+    if !(a.is_ascii_digit() && b.is_ascii_digit() && c.is_ascii_digit() && d.is_ascii_digit()) {
+        return None;
+    }
+    let n = 1_000 * digit(a) + 100 * digit(b) + 10 * digit(c) + digit(d);
+    if least <= n { Some(n) } else { None }
 }
 
 // n, if it is not below `least` and both columns before it are spaces.
-fn behind_spaces(a: u8, b: u8, least: u32, n: u32) -> u32
-    ensures { result ≤ largest → (result ≡ n) × (least ≤ n) × (a ≡ 32) × (b ≡ 32) }
+fn behind_spaces(a: u8, b: u8, least: u32, n: u32) -> Option<u32>
+    ensures { (m : ℕ) → result ≡ Some m → BehindSpaces a b least n m }
 {
-    if a == 32 {
-        if b == 32 {
-            if least <= n {
-                return n;
-            }
-        }
+    if a == b' ' && b == b' ' && least <= n {
+        Some(n)
+    } else {
+        None
     }
-    NO_NUMBER
 }
 
 // The number of one to four digits behind spaces, from its last digit on.
-fn short_number(f: Four) -> u32
-    ensures { result ≤ largest → ShortOf f result }
+fn short_number(f: Four) -> Option<u32>
+    ensures { (n : ℕ) → result ≡ Some n → ShortOf f n }
 {
-    if not_digit(f.d) {
-        return NO_NUMBER;
+    if !f.d.is_ascii_digit() {
+        return None;
     }
     let one = digit(f.d);
-    if f.c == 32 {
+    if f.c == b' ' {
         return behind_spaces(f.a, f.b, 0, one);
     }
-    if not_digit(f.c) {
-        return NO_NUMBER;
+    if !f.c.is_ascii_digit() {
+        return None;
     }
     let two = 10 * digit(f.c) + one;
-    if f.b == 32 {
+    if f.b == b' ' {
         return behind_spaces(f.a, f.b, 10, two);
     }
-    if not_digit(f.b) {
-        return NO_NUMBER;
+    if !f.b.is_ascii_digit() {
+        return None;
     }
     let three = 100 * digit(f.b) + two;
-    if f.a == 32 {
+    if f.a == b' ' {
         return behind_spaces(f.a, f.a, 100, three);
     }
-    if not_digit(f.a) {
-        return NO_NUMBER;
+    if !f.a.is_ascii_digit() {
+        return None;
     }
     let four = 1_000 * digit(f.a) + three;
-    if four < 1_000 {
-        return NO_NUMBER;
-    }
-    four
+    if 1_000 <= four { Some(four) } else { None }
 }
 
 // The number of one or two digits, from 1 on, in two columns.
-fn high_number(c: u8, d: u8) -> u32
-    ensures { result ≤ largest → HighOf c d result }
+fn high_number(c: u8, d: u8) -> Option<u32>
+    ensures { (n : ℕ) → result ≡ Some n → HighOf c d n }
 {
-    if c != 32 {
-        return four_digits(10, 48, 48, c, d);
+    if c != b' ' {
+        return four_digits(10, b'0', b'0', c, d);
     }
-    four_digits(1, 48, 48, 48, d)
-}
-
-// The number in the field at `at`, by the general way.
-fn bare_number(s: &[u8], at: usize) -> u32
-    ensures { result ≡ bare_number (field_at s.now at) }
-{
-    let field = field::read_field(s, at);
-    match field {
-        Field::Number(n) => n,
-        Field::NotNumber => NO_NUMBER,
-    }
+    four_digits(1, b'0', b'0', b'0', d)
 }
 
 // The number in the field at `at`, quick where it has at most four digits. This function and the next have one caller each, so
 // that the compiler puts them in its place: called, they gain little.
-pub fn short_field(s: &[u8], at: usize) -> u32
+pub fn short_field(s: &[u8], at: usize) -> Option<u32>
     requires { at + columns ≤ length s.now }
-    ensures { result ≡ bare_number (field_at s.now at) }
+    ensures { result ≡ field_at s.now at }
 {
     let f = first_four(s, at);
-    if s[at] == 32 && f.a == 32 && f.b == 32 && f.c == 32 && f.d == 32 {
-        let n = short_number(last_four(s, at));
-        if n <= LARGEST {
-            return n;
+    if s[at] == b' ' && f.a == b' ' && f.b == b' ' && f.c == b' ' && f.d == b' ' {
+        if let Some(n) = short_number(last_four(s, at)) {
+            return Some(n);
         }
     }
-    bare_number(s, at)
+    field::read_field(s, at)
 }
 
 // The same, quick where the number has at most six digits.
-pub fn long_field(s: &[u8], at: usize) -> u32
+pub fn long_field(s: &[u8], at: usize) -> Option<u32>
     requires { at + columns ≤ length s.now }
-    ensures { result ≡ bare_number (field_at s.now at) }
+    ensures { result ≡ field_at s.now at }
 {
     let f = first_four(s, at);
-    if s[at] == 32 && f.a == 32 && f.b == 32 {
-        if f.c == 32 && f.d == 32 {
-            let n = short_number(last_four(s, at));
-            if n <= LARGEST {
-                return n;
+    if s[at] == b' ' && f.a == b' ' && f.b == b' ' {
+        let l = last_four(s, at);
+        if f.c == b' ' && f.d == b' ' {
+            if let Some(n) = short_number(l) {
+                return Some(n);
             }
-            return bare_number(s, at);
-        }
-        let high = high_number(f.c, f.d);
-        if high <= LARGEST {
-            let l = last_four(s, at);
-            let low = four_digits(0, l.a, l.b, l.c, l.d);
-            if low <= LARGEST {
-                return 10_000 * high + low;
+        } else if let Some(high) = high_number(f.c, f.d) {
+            if let Some(low) = four_digits(0, l.a, l.b, l.c, l.d) {
+                return Some(10_000 * high + low);
             }
         }
     }
-    bare_number(s, at)
+    field::read_field(s, at)
 }

@@ -25,17 +25,6 @@ fn read_file(rt: &(impl Files + Eprint), path: &str, text: &mut [u8]) -> io::Res
     }
 }
 
-// Says on standard error what was refused, or that the sheet was not written whole, as on a full disk.
-fn report(rt: &impl Eprint, number: u32, line: u32, is_written: bool) -> io::Result<()> {
-    if number != 0 {
-        return eprintln!(rt; "{number} {line}");
-    }
-    if !is_written {
-        eprintln!(rt; "rack_merge: the merged sheet could not be written whole; do not use it")?;
-    }
-    Ok(())
-}
-
 // Reads the file that argument i names.
 fn read_argument(
     rt: &(impl Files + Env + Alloc + Eprint),
@@ -56,8 +45,11 @@ fn main(rt: HostRuntime) -> io::Result<()> {
     let n = read_argument(&rt, 1, &mut first)?;
     let m = read_argument(&rt, 2, &mut second)?;
     let mut out = [0u8; LEAST_MERGE_BUFFER];
-    let reply = merge::merge_sheets(&first[..n], &second[..m], &mut out);
-    let length = reply.length;
-    let is_written = rt.stdout().write_all(&out[..length]).is_ok();
-    report(&rt, reply.number, reply.line, is_written)
+    match merge::merge_sheets(&first[..n], &second[..m], &mut out) {
+        Ok(length) if rt.stdout().write_all(&out[..length]).is_ok() => Ok(()),
+        Ok(_) => {
+            eprintln!(&rt; "rack_merge: the merged sheet could not be written whole; do not use it")
+        }
+        Err(why) => eprintln!(&rt; "{why}"),
+    }
 }

@@ -4,6 +4,7 @@ use mathlib.Core.Path.{◌≡◌, refl, ap, sym, ◌∙◌}
 use mathlib.Core.Bool.{Bool, true, false, cond, true≢false}
 use mathlib.Core.Logic.{⊎_elim}
 use mathlib.Core.List.{List, [], ◌∷◌, ◌++◌, append_assoc}
+use Rattle.std.specs.Prelude.{Option, Some, None}
 use native.Mathlib.Nat.{add-zero}
 use native.Mathlib.Numerals.{add-one}
 use native.Mathlib.Omega.{arith}
@@ -11,12 +12,9 @@ use lib.ListN.{length, set, get_or, drop, replicate, length-append, length-drop,
 use lib.Seq.{drop-cons, set_at, append_snoc, get_or-drop, get_or_at}
 use lib.Dec.{eqb}
 use borrow.Author.Tests.{eq-eqb, ne_eqb, eqb-true}
-use Rattle.base.proofs.Choice.{below, cond_same, both}
-use Rattle.field.specs.declared.Field.{Field}
-use Rattle.field.specs.declared.Field.TheVariants.{Number, NotNumber}
+use Rattle.base.proofs.Choice.{below, cond_same, both, never}
 use Rattle.field.specs.Field.{field_at}
 use Rattle.field.proofs.Reading.{no_feed}
-use Rattle.reading.specs.declared.Numbers.{Numbers}
 use Rattle.reading.specs.Reading.{feed, feed_at, is_number, field_value, good, values, filled, numbers_at}
 
 -- The first line feed.
@@ -65,16 +63,16 @@ feed_byte s at h = sym (get_or-drop at s (feed (drop at s)) 0) ∙ feed_is (drop
 
 -- Fields that are numbers.
 
-pub is_number_lem : (f : Field) → is_number f ≡ true → f ≡ Number (field_value f)
-is_number_lem (Number n) e = refl
-is_number_lem NotNumber e = absurd (true≢false (sym e))
+pub is_number_lem : (f : Option ℕ) → is_number f ≡ true → f ≡ Some (field_value f)
+is_number_lem (Some n) e = refl
+is_number_lem None e = absurd (true≢false (sym e))
 
 pub good_part : (s : List ℕ) (at k : ℕ) → good s at (suc k) ≡ true → (good s at k ≡ true) × (is_number (field_at s (at + 9 * k)) ≡ true)
 unfolding good
 good_part s at k e = both (good s at k) (is_number (field_at s (at + 9 * k))) e
 
 -- each of k good fields is a number
-pub good_at : (s : List ℕ) (at k j : ℕ) → good s at k ≡ true → j < k → field_at s (at + 9 * j) ≡ Number (field_value (field_at s (at + 9 * j)))
+pub good_at : (s : List ℕ) (at k j : ℕ) → good s at k ≡ true → j < k → field_at s (at + 9 * j) ≡ Some (field_value (field_at s (at + 9 * j)))
 good_at s at zero j g h = absurd (omega arith)
 good_at s at (suc k) j g h =
     let p = good_part s at k g in
@@ -114,14 +112,14 @@ value_at s at (suc k) j zs h =
 
 -- The loop of `numbers_at`: a turn, a field that is no number, and the end.
 
-pub good_more : (s : List ℕ) (at j n : ℕ) (f : Field) → good s at j ≡ true → f ≡ field_at s (at + 9 * j) → f ≡ Number n → good s at (j + 1) ≡ true
+pub good_more : (s : List ℕ) (at j n : ℕ) (f : Option ℕ) → good s at j ≡ true → f ≡ field_at s (at + 9 * j) → f ≡ Some n → good s at (j + 1) ≡ true
 unfolding good
 good_more s at j n f g e h =
     ap (λ (k : ℕ). good s at k) (add-one j)
     ∙ ap (λ (t : Bool). cond t (is_number (field_at s (at + 9 * j))) false) g
     ∙ ap is_number (sym e ∙ h)
 
-pub values_more : (s : List ℕ) (at j n : ℕ) (f : Field) (l : List ℕ) → j < 14 → l ≡ filled (values s at j) j → f ≡ field_at s (at + 9 * j) → f ≡ Number n
+pub values_more : (s : List ℕ) (at j n : ℕ) (f : Option ℕ) (l : List ℕ) → j < 14 → l ≡ filled (values s at j) j → f ≡ field_at s (at + 9 * j) → f ≡ Some n
     → set l j n ≡ filled (values s at (j + 1)) (j + 1)
 unfolding values
 values_more s at j n f l h e p q =
@@ -136,7 +134,7 @@ values_more s at j n f l h e p q =
     ∙ ap (λ (x : ℕ). v ++ (x ∷ []) ++ z) m
     ∙ ap (λ (k : ℕ). values s at k ++ z) (sym (add-one j))
 
-bad_stays : (s : List ℕ) (at j k : ℕ) (f : Field) → j < k → f ≡ field_at s (at + 9 * j) → f ≡ NotNumber → good s at k ≡ false
+bad_stays : (s : List ℕ) (at j k : ℕ) (f : Option ℕ) → j < k → f ≡ field_at s (at + 9 * j) → f ≡ None → good s at k ≡ false
 unfolding good
 bad_stays s at j zero f h e q = absurd (omega arith)
 bad_stays s at j (suc k) f h e q =
@@ -145,24 +143,23 @@ bad_stays s at j (suc k) f h e q =
     (λ (l : k ≤ j).
     let p : k ≡ j = omega arith in
     ap (λ (i : ℕ). cond (good s at k) (is_number (field_at s (at + 9 * i))) false) p
-    ∙ ap (λ (x : Field). cond (good s at k) (is_number x) false) (sym e ∙ q)
+    ∙ ap (λ (x : Option ℕ). cond (good s at k) (is_number x) false) (sym e ∙ q)
     ∙ cond_same (good s at k) false)
     (below j k)
 
-pub numbers_bad : (s : List ℕ) (at j k : ℕ) (f : Field) → j < k → f ≡ field_at s (at + 9 * j) → f ≡ NotNumber
-    → record { good = false; list = replicate 14 0 } ≡ numbers_at s at k
+pub numbers_bad : (s : List ℕ) (at j k : ℕ) (f : Option ℕ) → j < k → f ≡ field_at s (at + 9 * j) → f ≡ None
+    → None ≡ numbers_at s at k
 numbers_bad s at j k f h e q = simp (bad_stays s at j k f h e q)
 
-pub numbers_done : (s : List ℕ) (at j k : ℕ) (l : List ℕ) → j ≤ k → k ≤ j → good s at j ≡ true → l ≡ filled (values s at j) j
-    → record { good = true; list = l } ≡ numbers_at s at k
+pub numbers_done : (s : List ℕ) (at j k : ℕ) (l : List ℕ) → j ≤ k → k ≤ j → good s at j ≡ true → l ≡ filled (values s at j) j → Some l ≡ numbers_at s at k
 numbers_done s at j k l h h' g e =
     let p : j ≡ k = omega arith in
-    ap (λ (x : List ℕ). record { good = true; list = x }) (e ∙ ap (λ (i : ℕ). filled (values s at i) i) p) ∙ simp (rw p at g)
+    ap (λ (x : List ℕ). Some x) (e ∙ ap (λ (i : ℕ). filled (values s at i) i) p) ∙ simp (rw p at g)
 
--- numbers that are good are of good fields
-pub numbers_good : (s : List ℕ) (at k : ℕ) (n : Numbers) → n ≡ numbers_at s at k → n.good ≡ true → good s at k ≡ true
-numbers_good s at k n e g = go (good s at k) (filled (values s at k) k) (ap (λ (m : Numbers). m.good) (sym e) ∙ g)
+-- where there are numbers, the fields are good
+pub numbers_good : (s : List ℕ) (at k : ℕ) (list : List ℕ) → Some list ≡ numbers_at s at k → good s at k ≡ true
+numbers_good s at k list e = go (good s at k) (filled (values s at k) k) e
   where
-    go : (t : Bool) (x : List ℕ) → (let m : Numbers = cond t (record { good = true; list = x }) (record { good = false; list = replicate 14 0 }) in m.good ≡ true → t ≡ true)
-    go true x = λ z. refl
-    go false x = λ z. z
+    go : (t : Bool) (x : List ℕ) → Some list ≡ cond t (Some x) None → t ≡ true
+    go true x z = refl
+    go false x z = never (cc)

@@ -4,6 +4,7 @@ use mathlib.Core.Path.{◌≡◌, refl, ap, sym, ◌∙◌}
 use mathlib.Core.Bool.{Bool, true, false, cond, not, true≢false}
 use mathlib.Core.List.{List, [], ◌∷◌}
 use mathlib.Core.Logic.{inl, inr}
+use Rattle.std.specs.Prelude.{Some, None}
 use lib.Dec.{leb, eqb}
 use borrow.Author.Tests.{leb-true, eqb-true, eqb-false, not-true}
 use denote.Struct.Field.{Field}
@@ -13,7 +14,6 @@ use Rattle.base.proofs.Choice.{both, never}
 use Rattle.reading.specs.declared.letter.Letter.{Letter}
 use Rattle.reading.specs.declared.letter.Letter.TheVariants.{Table, Row, Car, Strike, End, CarAccepted, CarRefused, Totals, GradeTotals, SheetRefused}
 use Rattle.reading.specs.declared.Due.{Due}
-use Rattle.reading.specs.declared.Found.TheVariants.{Is, Nothing}
 use Rattle.reading.specs.Letter.{byte_of, of_sheet, count_of, most_fields}
 use Rattle.reading.specs.Reading.{Candidate, letter_if, letter_among, sheet_letters, letter_of, any}
 use Rattle.reading.specs.contracts.letter.Letter.{enum}
@@ -53,22 +53,22 @@ plain_letter l = eqb-false (byte_of l) 10 (not-true (eqb (byte_of l) 10) (all_so
 -- A letter that is found has what each candidate has that bears the byte and is due.
 
 module _ (P : Letter → Type 0) (b : ℕ) (l : Letter) where
-  among : (cs : List Candidate) → Each (λ c. b ≡ byte_of c.letter → c.due ≡ true → P c.letter) cs → letter_among b cs ≡ Is l → P l
+  among : (cs : List Candidate) → Each (λ c. b ≡ byte_of c.letter → c.due ≡ true → P c.letter) cs → letter_among b cs ≡ Some l → P l
   among [] h e = never (cc)
   among (c ∷ cs) (h, hs) e = go (among cs hs) (eqb b (byte_of c.letter)) refl c.due refl e
     where
-      go : (letter_among b cs ≡ Is l → P l)
-          → (t : Bool) → eqb b (byte_of c.letter) ≡ t → (u : Bool) → c.due ≡ u → cond t (letter_if u c.letter) (letter_among b cs) ≡ Is l → P l
+      go : (letter_among b cs ≡ Some l → P l)
+          → (t : Bool) → eqb b (byte_of c.letter) ≡ t → (u : Bool) → c.due ≡ u → cond t (letter_if u c.letter) (letter_among b cs) ≡ Some l → P l
       go later true f true d e = let same : c.letter ≡ l = cc in rw same at (h (eqb-true b (byte_of c.letter) f) d)
       go later true f false d e = never (cc)
       go later false f u d e = later e
 
-  pub found : (due : Due) → Each (λ c. b ≡ byte_of c.letter → c.due ≡ true → P c.letter) (sheet_letters due) → letter_of b due ≡ Is l → P l
+  pub found : (due : Due) → Each (λ c. b ≡ byte_of c.letter → c.due ≡ true → P c.letter) (sheet_letters due) → letter_of b due ≡ Some l → P l
   unfolding letter_of
   found due = among (sheet_letters due)
 
 -- so it bears the byte
-pub from_letter : (due : Due) (b : ℕ) (l : Letter) → letter_of b due ≡ Is l → b ≡ byte_of l
+pub from_letter : (due : Due) (b : ℕ) (l : Letter) → letter_of b due ≡ Some l → b ≡ byte_of l
 from_letter due b l = found (λ m. b ≡ byte_of m) b l due (all (sheet_letters due))
   where
     all : (cs : List Candidate) → Each (λ c. b ≡ byte_of c.letter → c.due ≡ true → b ≡ byte_of c.letter) cs
@@ -76,7 +76,7 @@ from_letter due b l = found (λ m. b ≡ byte_of m) b l due (all (sheet_letters 
     all (c ∷ cs) = ((λ e d. e), all cs)
 
 -- a letter of a sheet is found by its byte, where any may come, and an answer's is not
-pub by_byte : (l : Letter) → letter_of (byte_of l) any ≡ cond (of_sheet l) (Is l) Nothing
+pub by_byte : (l : Letter) → letter_of (byte_of l) any ≡ cond (of_sheet l) (Some l) None
 unfolding letter_of
 by_byte Table = refl
 by_byte Row = refl

@@ -1,8 +1,8 @@
 // The permitted error beside the mass: the worked figures of request (c) of document 02, on the tables of document 01's sheet, of annex Д
 // of 002, and on two that show one rounding and a V0 of 0.
-use showing::{field, places_of, refused, say, show_figures};
+use showing::{one_table, places_of, show_figures};
 use std::io;
-use tankcar::{Car, Density15, Directory, Errors, Permitted, PermittedError};
+use tankcar::{Car, Density15, Errors, Permitted};
 
 // Up to four rows of one table of type 1; row 0 is 0 and 0.
 #[derive(Clone, Copy)]
@@ -64,33 +64,21 @@ fn errors_of(shares: [u32; 3], temperatures: [u32; 2], level: u32) -> Errors {
 }
 
 fn show_limit(rt: &impl Print, p: Permitted) -> io::Result<()> {
+    let within = if p.within { "within" } else { "not within" };
     show_figures(rt, p.figures)?;
-    field(rt, p.limit as u64)?;
-    if p.within {
-        say(rt, b" within\n")?;
-    } else {
-        say(rt, b" not within\n")?;
-    }
-    Ok(())
+    println!(rt; " {} {within}", p.limit)
 }
 
 // The six figures, the limit, and whether it is within.
 fn show(rt: &impl Print, rows: Rows, car: Car, errors: Errors) -> io::Result<()> {
-    let given_levels = rows.levels;
-    let given_capacities = rows.capacities;
-    let levels = places_of(given_levels);
-    let capacities = places_of(given_capacities);
-    let d = Directory {
-        count: 1,
-        types: [1, 0, 0, 0],
-        rows: [rows.count, 0, 0, 0],
-    };
-    say(rt, b"permitted error:")?;
-    match tankcar::permitted_error(d, &levels, &capacities, car, errors) {
-        PermittedError::Limit(p) => show_limit(rt, p)?,
-        PermittedError::Refused(n) => refused(rt, n)?,
+    let levels = places_of(rows.levels);
+    let capacities = places_of(rows.capacities);
+    let tables = one_table(1, rows.count, &levels, &capacities);
+    print!(rt; "permitted error:")?;
+    match tankcar::permitted_error(&tables, car, errors) {
+        Ok(permitted) => show_limit(rt, permitted),
+        Err(refusal) => println!(rt; " refused {refusal}"),
     }
-    Ok(())
 }
 
 // The first car of document 01's sheet, on a row, half a mm and 1 mm above one, with smaller errors and with none; one rounding twice,

@@ -1,19 +1,7 @@
 // The readings, the sets and the cars of a portable probe, request (i) of document 02, on the table of document 01's sheet.
-use showing::{field, places_of, refused, say, show_figures};
+use showing::{one_table, places_of, show, show_car, show_figures};
 use std::io;
-use tankcar::{
-    CarAnswer, Converted, ConvertedSet, Directory, Errors, PermittedError, ProbeCar, ProbeReading,
-    ProbeSet, Train,
-};
-
-// The table of document 01's sheet, by its directory; its rows stand in arrays.
-fn directory() -> Directory {
-    Directory {
-        count: 1,
-        types: [1, 0, 0, 0],
-        rows: [4, 0, 0, 0],
-    }
-}
+use tankcar::{Errors, ProbeCar, ProbeReading, ProbeSet, Train};
 
 // The first car of document 01's sheet, of a number and a stick, as a probe reads it at a level in mm.
 fn car_of(number: u32, stick: u32, level: f32) -> ProbeCar {
@@ -34,63 +22,37 @@ fn car_of(number: u32, stick: u32, level: f32) -> ProbeCar {
 }
 
 fn show_reading(rt: &impl Print, reading: ProbeReading) -> io::Result<()> {
-    say(rt, b"tenths:")?;
-    match tankcar::reading_tenths(reading) {
-        Converted::Tenths(n) => {
-            field(rt, n as u64)?;
-            say(rt, b"\n")?;
-        }
-        Converted::Refused(n) => refused(rt, n)?,
-    }
-    Ok(())
+    print!(rt; "tenths:")?;
+    show(rt, tankcar::reading_tenths(reading))
 }
 
 fn show_set(rt: &impl Print, set: ProbeSet) -> io::Result<()> {
-    say(rt, b"set:")?;
+    print!(rt; "set:")?;
     match tankcar::set_tenths(set) {
-        ConvertedSet::Tenths(t) => {
-            let density = t.density;
-            field(rt, t.level as u64)?;
-            field(rt, t.temperature as u64)?;
-            field(rt, density.0 as u64)?;
-            say(rt, b"\n")?;
-        }
-        ConvertedSet::Refused(n) => refused(rt, n)?,
+        Ok(t) => println!(rt; " {} {} {}", t.level, t.temperature, t.density.0),
+        Err(refusal) => println!(rt; " refused {refusal}"),
     }
-    Ok(())
-}
-
-fn show_answer(rt: &impl Print, answer: CarAnswer) -> io::Result<()> {
-    match answer {
-        CarAnswer::Accepted(f) => {
-            show_figures(rt, f)?;
-            say(rt, b"\n")?;
-        }
-        CarAnswer::Refused(n) => refused(rt, n)?,
-    }
-    Ok(())
 }
 
 // A probe's car by itself.
 fn show_alone(rt: &impl Print, car: ProbeCar) -> io::Result<()> {
     let levels = places_of([0, 1000, 2000, 3000]);
     let capacities = places_of([0, 20000, 50000, 70000]);
-    let answer = tankcar::work_out_probe(directory(), &levels, &capacities, car);
-    say(rt, b"probe:")?;
-    show_answer(rt, answer)?;
-    Ok(())
+    let tables = one_table(1, 4, &levels, &capacities);
+    let answer = tankcar::work_out_probe(&tables, car);
+    print!(rt; "probe:")?;
+    show_car(rt, answer)
 }
 
 // The train with a probe's car entered.
 fn entered(rt: &impl Print, train: Train, car: ProbeCar) -> io::Result<Train> {
     let levels = places_of([0, 1000, 2000, 3000]);
     let capacities = places_of([0, 20000, 50000, 70000]);
-    let step = train.enter_probe(directory(), &levels, &capacities, car);
-    say(rt, b"probe entered:")?;
-    let answer = step.answer;
-    show_answer(rt, answer)?;
-    let next = step.train;
-    Ok(next)
+    let tables = one_table(1, 4, &levels, &capacities);
+    let step = train.enter_probe(&tables, car);
+    print!(rt; "probe entered:")?;
+    show_car(rt, step.answer)?;
+    Ok(step.train)
 }
 
 // The limit of the permitted error beside the figures of a probe's car.
@@ -105,17 +67,15 @@ fn show_limit(rt: &impl Print, car: ProbeCar) -> io::Result<()> {
         oil_temperature: 5,
         level: 30,
     };
-    say(rt, b"probe's limit:")?;
-    match tankcar::permitted_error_probe(directory(), &levels, &capacities, car, errors) {
-        PermittedError::Limit(p) => {
-            let f = p.figures;
-            show_figures(rt, f)?;
-            field(rt, p.limit as u64)?;
-            say(rt, b"\n")?;
+    print!(rt; "probe's limit:")?;
+    let tables = one_table(1, 4, &levels, &capacities);
+    match tankcar::permitted_error_probe(&tables, car, errors) {
+        Ok(permitted) => {
+            show_figures(rt, permitted.figures)?;
+            println!(rt; " {}", permitted.limit)
         }
-        PermittedError::Refused(n) => refused(rt, n)?,
+        Err(refusal) => println!(rt; " refused {refusal}"),
     }
-    Ok(())
 }
 
 pub(crate) fn show_all(rt: &impl Print) -> io::Result<()> {
@@ -145,8 +105,5 @@ pub(crate) fn show_all(rt: &impl Print) -> io::Result<()> {
     let one = entered(rt, Train::empty(), car_of(1, 1, 10000000.0))?;
     let two = entered(rt, one, car_of(1, 1, 1500.0))?;
     let three = entered(rt, two, car_of(1, 1, 1500.0))?;
-    say(rt, b"held:")?;
-    field(rt, three.held as u64)?;
-    say(rt, b"\n")?;
-    Ok(())
+    println!(rt; "held: {}", three.cars.held)
 }

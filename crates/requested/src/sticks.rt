@@ -1,7 +1,6 @@
 // The stick, at a level in tenths of a mm, compared with the tape: a half both ways, 2 mm and beyond, no difference, 28 and 29.
-use showing::{field, refused, say};
 use std::io;
-use tankcar::{Comparison, StickCheck, TAPE_READINGS};
+use tankcar::{Comparison, TAPE_READINGS};
 
 // Twenty readings of one level in mm, but for the first two.
 fn tape_of(first: u32, second: u32, others: u32) -> [u32; TAPE_READINGS] {
@@ -13,32 +12,17 @@ fn tape_of(first: u32, second: u32, others: u32) -> [u32; TAPE_READINGS] {
 
 // The difference in 0.01 mm with its sign, whether it passes, and the tape allowance in 0.01 mm.
 fn show_comparison(rt: &impl Print, x: Comparison) -> io::Result<()> {
-    let difference = x.difference;
-    if difference.negative {
-        say(rt, b" minus")?;
-    }
-    field(rt, difference.size as u64)?;
-    if x.passes {
-        say(rt, b" passes")?;
-    } else {
-        say(rt, b" fails")?;
-    }
-    field(rt, x.allowance as u64)?;
-    say(rt, b"\n")?;
-    Ok(())
+    let sign = if x.difference.negative { " minus" } else { "" };
+    let outcome = if x.passes { "passes" } else { "fails" };
+    println!(rt; "{sign} {} {outcome} {}", x.difference.size, x.allowance)
 }
 
 fn show(rt: &impl Print, stick: u64, count: u32, readings: [u32; TAPE_READINGS]) -> io::Result<()> {
-    say(rt, b"stick,")?;
-    field(rt, stick)?;
-    say(rt, b" and")?;
-    field(rt, count as u64)?;
-    say(rt, b" readings:")?;
+    print!(rt; "stick, {stick} and {count} readings:")?;
     match tankcar::stick_against_tape(stick, count, readings) {
-        StickCheck::Compared(x) => show_comparison(rt, x)?,
-        StickCheck::Refused(n) => refused(rt, n)?,
+        Ok(x) => show_comparison(rt, x),
+        Err(refusal) => println!(rt; " refused {refusal}"),
     }
-    Ok(())
 }
 
 pub(crate) fn show_all(rt: &impl Print) -> io::Result<()> {

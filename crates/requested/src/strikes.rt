@@ -1,7 +1,7 @@
 // Cars entered in a train and struck from it, request (h) of document 02, on the table of document 01's sheet.
-use showing::{field, places_of, refused, say, show_figures};
+use showing::{one_table, places_of, show, show_car};
 use std::io;
-use tankcar::{Car, CarAnswer, Density15, Directory, StrikeAnswer, Totals, Train};
+use tankcar::{Car, Density15, Totals, Train};
 
 // The first car of document 01's sheet, of a number and a grade, at a level in mm.
 fn car_of(number: u32, grade: u32, level: u32) -> Car {
@@ -24,48 +24,24 @@ fn car_of(number: u32, grade: u32, level: u32) -> Car {
 fn entered(rt: &impl Print, train: Train, car: Car) -> io::Result<Train> {
     let levels = places_of([0, 1000, 2000, 3000]);
     let capacities = places_of([0, 20000, 50000, 70000]);
-    let d = Directory {
-        count: 1,
-        types: [1, 0, 0, 0],
-        rows: [4, 0, 0, 0],
-    };
-    let step = train.enter(d, &levels, &capacities, car);
-    say(rt, b"entered:")?;
-    let answer = step.answer;
-    match answer {
-        CarAnswer::Accepted(f) => {
-            show_figures(rt, f)?;
-            say(rt, b"\n")?;
-        }
-        CarAnswer::Refused(n) => refused(rt, n)?,
-    }
-    let next = step.train;
-    Ok(next)
+    let tables = one_table(1, 4, &levels, &capacities);
+    let step = train.enter(&tables, car);
+    print!(rt; "entered:")?;
+    show_car(rt, step.answer)?;
+    Ok(step.train)
 }
 
 // The train with a number struck.
 fn struck(rt: &impl Print, train: Train, number: u32) -> io::Result<Train> {
     let step = train.strike(number);
-    say(rt, b"struck:")?;
-    let answer = step.answer;
-    match answer {
-        StrikeAnswer::Struck(n) => {
-            field(rt, n as u64)?;
-            say(rt, b"\n")?;
-        }
-        StrikeAnswer::Refused(n) => refused(rt, n)?,
-    }
-    let next = step.train;
-    Ok(next)
+    print!(rt; "struck:")?;
+    show(rt, step.answer)?;
+    Ok(step.train)
 }
 
 // Accepted cars, gross and net in kg.
-fn show_totals(rt: &impl Print, t: Totals) -> io::Result<()> {
-    field(rt, t.accepted as u64)?;
-    field(rt, t.gross)?;
-    field(rt, t.net)?;
-    say(rt, b"\n")?;
-    Ok(())
+fn show_totals(rt: &impl Print, title: &str, t: Totals) -> io::Result<()> {
+    println!(rt; "{title}: {} {} {}", t.accepted, t.gross, t.net)
 }
 
 pub(crate) fn show_all(rt: &impl Print) -> io::Result<()> {
@@ -78,14 +54,8 @@ pub(crate) fn show_all(rt: &impl Print) -> io::Result<()> {
     let without_refused = struck(rt, again, 3)?;
     let none = struck(rt, without_refused, 0)?;
     let last = entered(rt, none, car_of(1, 3, 1510))?;
-    let sums = last.sums;
-    say(rt, b"held:")?;
-    field(rt, last.held as u64)?;
-    say(rt, b"\ntotals:")?;
-    show_totals(rt, sums.all)?;
-    say(rt, b"grade 3:")?;
-    show_totals(rt, sums.grades[2])?;
-    say(rt, b"grade 4:")?;
-    show_totals(rt, sums.grades[3])?;
-    Ok(())
+    println!(rt; "held: {}", last.cars.held)?;
+    show_totals(rt, "totals", last.sums.all)?;
+    show_totals(rt, "grade 3", last.sums.grades[2])?;
+    show_totals(rt, "grade 4", last.sums.grades[3])
 }

@@ -2,11 +2,9 @@
 #![tactic(auto)]
 
 ghost use Rattle.std.specs.Prelude.{◌≡◌};
-ghost use Rattle.reading.specs.Reading.{no_row, row_at};
+ghost use Rattle.reading.specs.Reading.{row_at};
 
-use base::LARGEST;
 use field::COLUMNS;
-use reading::Pair;
 use scanning::ROW_BYTES;
 
 // Where the capacity and the line feed of an R line stand, behind its start.
@@ -14,32 +12,14 @@ const ROW_CAPACITY: usize = 1 + COLUMNS;
 
 const ROW_FEED: usize = ROW_BYTES - 1;
 
-fn no_row() -> Pair
-    ensures { result ≡ no_row }
-{
-    Pair {
-        good: false,
-        first: 0,
-        second: 0,
-    }
-}
-
-// The R line that starts at `at`, where there is one as it should be.
-pub fn row_at(s: &[u8], at: usize) -> Pair
+// The level and the capacity of the R line that starts at `at`, where there is one as it should be.
+pub fn row_at(s: &[u8], at: usize) -> Option<(u32, u32)>
     ensures { result ≡ row_at s.now at }
 {
-    if at < s.len() && ROW_FEED < s.len() - at && s[at] == b'R' && s[at + ROW_FEED] == 10 {
-        let first = quick::short_field(s, at + 1);
-        if first <= LARGEST {
-            let second = quick::long_field(s, at + ROW_CAPACITY);
-            if second <= LARGEST {
-                return Pair {
-                    good: true,
-                    first,
-                    second,
-                };
-            }
-        }
+    if s.len() <= at || s.len() - at <= ROW_FEED || s[at] != b'R' || s[at + ROW_FEED] != b'\n' {
+        return None;
     }
-    no_row()
+    let level = quick::short_field(s, at + 1)?;
+    let capacity = quick::long_field(s, at + ROW_CAPACITY)?;
+    Some((level, capacity))
 }

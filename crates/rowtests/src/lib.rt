@@ -12,48 +12,29 @@ use table::PLACES;
 pub fn table_line_bad(types: [u32; MOST_TABLES], count: usize, kind: u32, rows: u32) -> bool
     ensures { result ≡ table_line_bad (take count types) kind rows }
 {
-    if kind < 1 {
-        return true;
-    }
-    if 9_999 < kind {
-        return true;
-    }
-    if base::holds(&types, count, kind) {
-        return true;
-    }
-    if rows < 2 {
-        return true;
-    }
-    if MOST_ROWS < rows as usize {
-        return true;
-    }
-    MOST_TABLES <= count
+    kind < 1
+        || 9_999 < kind
+        || base::holds(&types, count, kind)
+        || rows < 2
+        || MOST_ROWS < rows as usize
+        || MOST_TABLES <= count
 }
 
 // 8: whether a table's first row is bad.
 pub fn first_row_bad(level: u32, capacity: u32) -> bool
     ensures { result ≡ first_row_bad (row_of level capacity) }
 {
-    if level != 0 {
-        return true;
-    }
-    capacity != 0
+    level != 0 || capacity != 0
 }
 
 // 8: whether a row is bad behind the row `level0`, `capacity0`.
 pub fn later_row_bad(level0: u32, capacity0: u32, level: u32, capacity: u32) -> bool
     ensures { result ≡ later_row_bad (row_of level0 capacity0) (row_of level capacity) }
 {
-    if level <= level0 {
-        return true;
-    }
-    if capacity <= capacity0 {
-        return true;
-    }
-    if HIGHEST_LEVEL < level {
-        return true;
-    }
-    GREATEST_CAPACITY < capacity
+    level <= level0
+        || capacity <= capacity0
+        || HIGHEST_LEVEL < level
+        || GREATEST_CAPACITY < capacity
 }
 
 // 8: whether a row is bad behind the `rows` rows from `at` on.

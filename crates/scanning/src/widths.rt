@@ -1,6 +1,6 @@
-// The letters' bytes, and the lengths of their lines.
+// The lengths of the letters' lines.
 ghost use Rattle.std.specs.Prelude.{◌≡◌, ◌≤◌};
-ghost use Rattle.reading.specs.Letter.{byte_of, count_of, most_fields};
+ghost use Rattle.reading.specs.Letter.{count_of, most_fields};
 
 use field::COLUMNS;
 use reading::Letter;
@@ -46,24 +46,6 @@ pub const TOTALS_BYTES: usize = 2 + COLUMNS * TOTALS_FIELDS;
 pub const GRADE_TOTALS_BYTES: usize = 2 + COLUMNS * GRADE_TOTALS_FIELDS;
 
 pub const SHEET_REFUSED_BYTES: usize = 2 + COLUMNS * SHEET_REFUSED_FIELDS;
-
-// The letter's byte.
-pub fn byte_of(letter: Letter) -> u8
-    ensures { result ≡ byte_of letter }
-{
-    match letter {
-        Letter::Table => b'T',
-        Letter::Row => b'R',
-        Letter::Car => b'C',
-        Letter::Strike => b'K',
-        Letter::End => b'E',
-        Letter::CarAccepted => b'A',
-        Letter::CarRefused => b'X',
-        Letter::Totals => b'S',
-        Letter::GradeTotals => b'G',
-        Letter::SheetRefused => b'Z',
-    }
-}
 
 // How many fields a line of the letter has.
 pub fn count_of(letter: Letter) -> usize

@@ -2,6 +2,7 @@
 use Prim.Native.Nat.{ℕ, ◌+◌, ◌≤◌}
 use mathlib.Core.Path.{◌≡◌}
 use mathlib.Core.List.{List}
+use Rattle.std.specs.Prelude.{Ok, Err}
 use native.Mathlib.Omega.{arith}
 use lib.ListN.{length}
 use Rattle.table.specs.Layout.{tables_of}
@@ -12,7 +13,8 @@ use Rattle.grammar.specs.ByGrammar.{Refusal, ReadByGrammar}
 use Rattle.grammar.specs.Inner.{SoundState}
 use Rattle.grammar.proofs.Turns.{sheet_proper}
 use Rattle.grammar.proofs.ByGrammar.{by_grammar}
-use Rattle.holding.specs.declared.Outcome.TheVariants.{Whole, RefusedAt}
+use Rattle.base.specs.Refusal.{refusal_number}
+use Rattle.holding.specs.declared.LineRefusal.{LineRefusal}
 use Rattle.sheet.specs.declared.Contents.{Contents}
 use Rattle.holding.specs.declared.reader.Reader.{Reader}
 use Rattle.holding.specs.Layout.{history_of}
@@ -42,11 +44,11 @@ bounded n h l c f m b =
 -- Once it is over.
 
 module _ (s : List ℕ) (r : Contents) (l c f : List ℕ) (e : read_in r l c f ≡ sheet_of s) where
-  proper : r.outcome ≡ Whole → WholeSheet (tables_of r.directory l c) (history_of f (r.cars + r.struck))
+  proper : r.outcome ≡ Ok tt → WholeSheet (tables_of r.directory l c) (history_of f (r.cars + r.struck))
   proper w = let p : Proper (length s) (read_in r l c f) = rw e (sheet_proper s) in rw w at p
 
   -- what `read_sheet` promises
-  pub finish : ((line number : ℕ) → r.outcome ≡ RefusedAt line number → Refusal s line number (tables_of r.directory l c) (history_of f (r.cars + r.struck)))
+  pub finish : ((why : LineRefusal) → r.outcome ≡ Err why → Refusal s why.line (refusal_number why.refusal) (tables_of r.directory l c) (history_of f (r.cars + r.struck)))
       → (read_in r l c f ≡ sheet_of s) × Proper (length s) (sheet_of s) × Held s r l c f × ReadByGrammar s
   finish before = (
     e,

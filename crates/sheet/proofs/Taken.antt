@@ -9,7 +9,6 @@ use lib.Seq.{set-get_or, set-set, get_or-set_same, get_or-set_other}
 use borrow.Author.Tests.{ne_eqb}
 use Rattle.reading.specs.declared.letter.Letter.TheVariants.{Row as R}
 use Rattle.reading.specs.declared.Due.{Due}
-use Rattle.reading.specs.declared.LineRead.{LineRead}
 use Rattle.reading.specs.Letter.{width_of}
 use Rattle.reading.specs.Reading.{line_at, row_only, row_read}
 use Rattle.base.specs.Limits.{most_tables, most_rows}
@@ -42,7 +41,7 @@ row_on s st a b ts h o el g et =
     let due : due_of st ≡ row_only = simp (ne_eqb st.owed 0 (λ z. omega arith)) in
     let er : line_at s st.at (due_of st) ≡ row_read a b = ap (λ (x : Due). line_at s st.at x) due ∙ el in
     let e : past R st (st.owed - 1) ts st.cars st.struck st.history ≡ step_of s st =
-    row_taken st (row_of a b) ts g et ∙ sym (ap (λ (r : LineRead). by_reading (length s) st r.reading r.numbers) er) in
+    row_taken st (row_of a b) ts g et ∙ sym (ap (by_reading (length s) st) er) in
     let w = went_on s st (past R st (st.owed - 1) ts st.cars st.struck st.history) e h _ refl in
     record { sound = w.0; further = omega arith; same = w.2; read = λ t. read_next s st (past R st (st.owed - 1) ts st.cars st.struck st.history) e h t _ refl }
 

@@ -7,8 +7,8 @@ ghost use Rattle.grammar.specs.Proper.{Proper};
 ghost use Rattle.grammar.specs.ByGrammar.{ReadByGrammar};
 ghost use Rattle.sheet.specs.Layout.{read_in, Held};
 
-use base::{MOST_CAR_LINES, MOST_ROWS, MOST_STRIKES, MOST_TABLES};
-use holding::{HISTORY_NUMBERS, Outcome, Progress};
+use base::{MOST_CAR_LINES, MOST_ROWS, MOST_STRIKES, MOST_TABLES, Refusal};
+use holding::{HISTORY_NUMBERS, LineRefusal};
 use scanning::{CAR_BYTES, END_BYTES, ROW_BYTES, STRIKE_BYTES, TABLE_BYTES};
 use table::Directory;
 
@@ -24,7 +24,7 @@ pub const LONGEST_SHEET: usize = MOST_TABLES * (TABLE_BYTES + MOST_ROWS * ROW_BY
 // directory says, line i behind the tables, of so many C and K lines, from 15 i on. Beside a refusal they are what was read before it.
 #[derive(Clone, Copy)]
 pub struct Contents {
-    pub outcome: Outcome,
+    pub outcome: Result<(), LineRefusal>,
     pub directory: Directory,
     pub cars: usize,
     pub struck: usize,
@@ -45,10 +45,12 @@ pub fn read_sheet(
 {
     let mut reader = holding::started();
     if LONGEST_SHEET < s.len() {
-        let directory = reader.directory;
         return Contents {
-            outcome: Outcome::RefusedAt(0, 2),
-            directory,
+            outcome: Err(LineRefusal {
+                line: 0,
+                refusal: Refusal::LongSheet,
+            }),
+            directory: reader.directory,
             cars: 0,
             struck: 0,
         };
@@ -56,19 +58,14 @@ pub fn read_sheet(
     loop {
         let taken = rows::take_rows(s, reader, levels, capacities);
         let step = stepping::read_step(s, taken, levels, capacities, fields);
-        let progress = step.progress;
         reader = step.reader;
-        let directory = reader.directory;
-        match progress {
-            Progress::Next => {}
-            Progress::Over(outcome) => {
-                return Contents {
-                    outcome,
-                    directory,
-                    cars: reader.cars,
-                    struck: reader.struck,
-                };
-            }
+        if let Some(outcome) = step.end {
+            return Contents {
+                outcome,
+                directory: reader.directory,
+                cars: reader.cars,
+                struck: reader.struck,
+            };
         }
     }
 }

@@ -1,6 +1,6 @@
 // The rows of a table behind its first, taken one after another for as long as they are as they should be. It is what
 // makes the reading of a long table quick; every other line is left to `read_step`.
-ghost use Rattle.std.specs.Prelude.{◌≡◌, true, false, List, ℕ, length};
+ghost use Rattle.std.specs.Prelude.{◌≡◌, Some, false, List, ℕ, length};
 ghost use Rattle.reading.specs.Reading.{line_at, row_only, row_read};
 ghost use Rattle.table.specs.Table.{row_of, later_row_bad};
 ghost use Rattle.grammar.specs.Inner.{Onward};
@@ -8,24 +8,17 @@ ghost use Rattle.holding.specs.Inner.{state_in, Bounds, SoundReader};
 
 use base::MOST_ROWS;
 use holding::{Reader, reader_at, store_row};
-use reading::Pair;
 use scanning::ROW_BYTES;
 
-// The R line at `at`, where there is one that may follow the row `level0`, `capacity0`; else good is false.
-fn next_row(s: &[u8], at: usize, level0: u32, capacity0: u32) -> Pair
-    ensures { result.good ≡ true → (line_at s.now at row_only ≡ row_read result.first result.second) × (later_row_bad (row_of level0 capacity0) (row_of result.first result.second) ≡ false) }
+// The level and the capacity of the R line at `at`, where there is one that may follow the row `level0`, `capacity0`.
+fn next_row(s: &[u8], at: usize, level0: u32, capacity0: u32) -> Option<(u32, u32)>
+    ensures { (level capacity : ℕ) → result ≡ Some (level, capacity) → (line_at s.now at row_only ≡ row_read level capacity) × (later_row_bad (row_of level0 capacity0) (row_of level capacity) ≡ false) }
 {
-    let p = rowline::row_at(s, at);
-    if p.good {
-        if rowtests::later_row_bad(level0, capacity0, p.first, p.second) {
-            return Pair {
-                good: false,
-                first: 0,
-                second: 0,
-            };
-        }
+    let (level, capacity) = rowline::row_at(s, at)?;
+    if rowtests::later_row_bad(level0, capacity0, level, capacity) {
+        return None;
     }
-    p
+    Some((level, capacity))
 }
 
 // Takes rows of the last table, behind its first. The reader that is handed back is where the first other line is due.
@@ -54,19 +47,17 @@ pub fn take_rows(
     let mut at = reader.at;
     let mut line = reader.line;
     let mut owed = reader.owed;
-    while 0 < owed {
-        let p = next_row(s, at, level, capacity);
-        if p.good {
-            level = p.first;
-            capacity = p.second;
-            store_row(levels, capacities, first + rows as usize, level, capacity);
-            rows += 1;
-            owed -= 1;
-            at += ROW_BYTES;
-            line += 1;
-        } else {
+    for left in (0..reader.owed).rev() {
+        let Some((next_level, next_capacity)) = next_row(s, at, level, capacity) else {
             break;
-        }
+        };
+        level = next_level;
+        capacity = next_capacity;
+        store_row(levels, capacities, first + rows as usize, level, capacity);
+        rows += 1;
+        owed = left;
+        at += ROW_BYTES;
+        line += 1;
     }
     reader_at(reader, at, line, owed, k, rows)
 }

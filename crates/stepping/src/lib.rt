@@ -6,12 +6,12 @@ ghost use Rattle.table.specs.Table.{row_of};
 ghost use Rattle.grammar.specs.Sheet.{table_line, row_line, car_line, strike_line, end_line, step_of};
 ghost use Rattle.holding.specs.Inner.{state_in, step_in, Owing, Bounds};
 
-use base::{MOST_CAR_LINES, MOST_ROWS, MOST_STRIKES};
+use base::{MOST_CAR_LINES, MOST_ROWS, MOST_STRIKES, Refusal};
 use holding::{
-    CAR_MARK, HISTORY_NUMBERS, LINE_PLACES, Outcome, Progress, Reader, STRIKE_MARK, Stepped,
-    due_of, refused_here, store_line, store_row,
+    CAR_MARK, HISTORY_NUMBERS, LINE_PLACES, LineRefusal, Reader, STRIKE_MARK, Stepped, due_of,
+    refused_here, store_line, store_row,
 };
-use reading::{Letter, MOST_FIELDS, Reading};
+use reading::{Letter, MOST_FIELDS};
 use scanning::{CAR_BYTES, END_BYTES, ROW_BYTES, STRIKE_BYTES, TABLE_BYTES};
 
 // A T line: 7, or one more table.
@@ -20,23 +20,21 @@ fn table_line(reader: Reader, kind: u32, rows: u32) -> Stepped
     ensures { (l c f : List ℕ) → step_in result l c f ≡ table_line (state_in reader l c f) kind rows }
 {
     let mut directory = reader.directory;
-    let types = directory.types;
     let k = directory.count as usize;
-    if rowtests::table_line_bad(types, k, kind, rows) {
-        return refused_here(reader, 7);
+    if rowtests::table_line_bad(directory.types, k, kind, rows) {
+        return refused_here(reader, Refusal::TableLine);
     }
     directory.types[k] = kind;
     directory.rows[k] = 0;
     directory.count += 1;
     Stepped {
-        progress: Progress::Next,
+        end: None,
         reader: Reader {
             at: reader.at + TABLE_BYTES,
             line: reader.line + 1,
             owed: rows,
-            cars: reader.cars,
-            struck: reader.struck,
             directory,
+            ..reader
         },
     }
 }
@@ -57,19 +55,18 @@ fn row_line(
     let rows = directory.rows[k];
     let at = MOST_ROWS * k;
     if rowtests::row_bad(levels, capacities, at, rows as usize, level, capacity) {
-        return refused_here(reader, 8);
+        return refused_here(reader, Refusal::RowLine);
     }
     store_row(levels, capacities, at + rows as usize, level, capacity);
     directory.rows[k] = rows + 1;
     Stepped {
-        progress: Progress::Next,
+        end: None,
         reader: Reader {
             at: reader.at + ROW_BYTES,
             line: reader.line + 1,
             owed: reader.owed - 1,
-            cars: reader.cars,
-            struck: reader.struck,
             directory,
+            ..reader
         },
     }
 }
@@ -83,22 +80,18 @@ fn car_line(
     requires { Bounds reader }
     ensures { (l c : List ℕ) → step_in result l c fields.new ≡ car_line (state_in reader l c fields.old) numbers }
 {
-    let cars = reader.cars;
-    let struck = reader.struck;
-    let directory = reader.directory;
-    if MOST_CAR_LINES <= cars {
-        return refused_here(reader, 9);
+    if MOST_CAR_LINES <= reader.cars {
+        return refused_here(reader, Refusal::Count);
     }
-    store_line(fields, LINE_PLACES * (cars + struck), CAR_MARK, numbers);
+    let at = LINE_PLACES * (reader.cars + reader.struck);
+    store_line(fields, at, CAR_MARK, numbers);
     Stepped {
-        progress: Progress::Next,
+        end: None,
         reader: Reader {
             at: reader.at + CAR_BYTES,
             line: reader.line + 1,
-            owed: reader.owed,
-            cars: cars + 1,
-            struck,
-            directory,
+            cars: reader.cars + 1,
+            ..reader
         },
     }
 }
@@ -112,22 +105,18 @@ fn strike_line(
     requires { Bounds reader }
     ensures { (l c : List ℕ) → step_in result l c fields.new ≡ strike_line (state_in reader l c fields.old) (get_or numbers 0 0) }
 {
-    let cars = reader.cars;
-    let struck = reader.struck;
-    let directory = reader.directory;
-    if MOST_STRIKES <= struck {
-        return refused_here(reader, 9);
+    if MOST_STRIKES <= reader.struck {
+        return refused_here(reader, Refusal::Count);
     }
-    store_line(fields, LINE_PLACES * (cars + struck), STRIKE_MARK, numbers);
+    let at = LINE_PLACES * (reader.cars + reader.struck);
+    store_line(fields, at, STRIKE_MARK, numbers);
     Stepped {
-        progress: Progress::Next,
+        end: None,
         reader: Reader {
             at: reader.at + STRIKE_BYTES,
             line: reader.line + 1,
-            owed: reader.owed,
-            cars,
-            struck: struck + 1,
-            directory,
+            struck: reader.struck + 1,
+            ..reader
         },
     }
 }
@@ -138,16 +127,18 @@ fn end_line(bytes: usize, reader: Reader, count: u32) -> Stepped
     ensures { (l c f : List ℕ) → step_in result l c f ≡ end_line bytes (state_in reader l c f) count }
 {
     if count as usize != reader.cars {
-        return refused_here(reader, 9);
+        return refused_here(reader, Refusal::Count);
     }
-    if reader.at + END_BYTES != bytes {
-        return Stepped {
-            progress: Progress::Over(Outcome::RefusedAt(reader.line + 1, 9)),
-            reader,
-        };
-    }
+    let end = if reader.at + END_BYTES == bytes {
+        Ok(())
+    } else {
+        Err(LineRefusal {
+            line: reader.line + 1,
+            refusal: Refusal::Count,
+        })
+    };
     Stepped {
-        progress: Progress::Over(Outcome::Whole),
+        end: Some(end),
         reader,
     }
 }
@@ -163,21 +154,24 @@ pub fn read_step(
     requires { Bounds reader }
     ensures { step_in result levels.new capacities.new fields.new ≡ step_of s.now (state_in reader levels.old capacities.old fields.old) }
 {
-    let d = reader.directory;
-    let due = due_of(reader.owed, d.count, reader.cars + reader.struck);
-    let line = scanning::read_line_at(s, reader.at, due);
-    let numbers = line.numbers;
-    let reading = line.reading;
-    match reading {
-        Reading::Read(letter) => match letter {
-            Letter::Table => table_line(reader, numbers[0], numbers[1]),
-            Letter::Row => row_line(reader, levels, capacities, numbers[0], numbers[1]),
-            Letter::Car => car_line(reader, fields, numbers),
-            Letter::Strike => strike_line(reader, fields, numbers),
-            Letter::End => end_line(s.len(), reader, numbers[0]),
-            // a letter of an answer alone
-            _ => refused_here(reader, 4),
-        },
-        Reading::Refused(number) => refused_here(reader, number),
+    let due = due_of(
+        reader.owed,
+        reader.directory.count,
+        reader.cars + reader.struck,
+    );
+    match scanning::read_line_at(s, reader.at, due) {
+        Ok(line) => {
+            let numbers = line.numbers;
+            match line.letter {
+                Letter::Table => table_line(reader, numbers[0], numbers[1]),
+                Letter::Row => row_line(reader, levels, capacities, numbers[0], numbers[1]),
+                Letter::Car => car_line(reader, fields, numbers),
+                Letter::Strike => strike_line(reader, fields, numbers),
+                Letter::End => end_line(s.len(), reader, numbers[0]),
+                // a letter of an answer alone
+                _ => refused_here(reader, Refusal::WrongLetter),
+            }
+        }
+        Err(refusal) => refused_here(reader, refusal),
     }
 }

@@ -1,19 +1,16 @@
 -- Laws of sums: one car more among others, the grades together, and the tests that the code makes of them.
 use Prim.Native.Nat.{ℕ, zero, suc, ◌+◌, ◌-◌, ◌≤◌, ◌<◌}
 use mathlib.Core.Path.{◌≡◌, refl, ap, ap₂, sym, ◌∙◌}
-use mathlib.Core.Logic.{⊎_elim}
-use mathlib.Core.Bool.{Bool, true, false, cond, not, ◌&&◌, true≢false}
+use mathlib.Core.Bool.{Bool, true, false, cond, ◌&&◌, true≢false}
 use mathlib.Core.List.{List, [], ◌∷◌, ◌++◌, append-nil}
-use native.Mathlib.Numerals.{add-one}
 use native.Mathlib.Omega.{arith}
 use lib.Dec.{eqb}
-use lib.ListN.{length, get_or, set, drop, length-append, drop_of_length-le}
-use lib.Seq.{drop-cons}
-use borrow.Author.Tests.{eq-eqb, ne_eqb, eqb-true, not-true, not-false}
+use lib.ListN.{length, get_or, set, length-append}
+use borrow.Author.Tests.{eq-eqb, ne_eqb, eqb-true}
 use Rattle.base.specs.Limits.{grade_count}
 use Rattle.base.specs.Lists.{Each}
 use Rattle.base.specs.Total.{total}
-use Rattle.base.proofs.Choice.{same, both_hold}
+use Rattle.base.proofs.Choice.{both_hold}
 use Rattle.base.proofs.Lists.{selected-append}
 use Rattle.base.proofs.Total.{total-append, total_same, total_selected, part_most}
 use Rattle.car.specs.Measured.{gross, net}
@@ -238,23 +235,6 @@ each_same : (ts : List Totals) → same_each ts ts ≡ true
 each_same [] = refl
 each_same (t ∷ ts) = rw (totals_same {a = t} {b = t} refl, each_same ts)
 
--- one more grade is passed
-pub each_next : (ts us : List Totals) (i : ℕ) → i < length ts → i < length us
-    → same_each (drop i ts) (drop i us) ≡ (same_totals (get_or ts i no_totals) (get_or us i no_totals) && same_each (drop (i + 1) ts) (drop (i + 1) us))
-each_next ts us i h k =
-    ap₂ same_each (drop-cons ts i no_totals h) (drop-cons us i no_totals k)
-    ∙ ap (λ (j : ℕ). same_totals (get_or ts i no_totals) (get_or us i no_totals) && same_each (drop j ts) (drop j us)) (sym (add-one i))
-
-pub each_passed : (ts us : List Totals) (i : ℕ) → length ts ≤ i → length us ≤ i → same_each (drop i ts) (drop i us) ≡ true
-each_passed ts us i h k = ap₂ same_each (drop_of_length-le ts h) (drop_of_length-le us k)
-
--- a test that was taken, and one that was left
-pub apart : {r t : Bool} → r ≡ t → not r ≡ true → t ≡ false
-apart {r} p q = sym p ∙ not-true r q
-
-pub alike : {r t : Bool} → r ≡ t → not r ≡ false → t ≡ true
-alike {r} p q = sym p ∙ not-false r q
-
 pub same_sums_lem : {a b : Sums} → same_sums a b ≡ true → a ≡ b
 same_sums_lem {a} {b} e =
     let p = both_hold (same_totals a.all b.all) (same_each a.grades b.grades) e in
@@ -264,24 +244,6 @@ same_sums_lem {a} {b} e =
 
 pub sums_same : {a b : Sums} → a ≡ b → same_sums a b ≡ true
 sums_same {a} {b} e = rw e (rw (totals_same {a = b.all} {b = b.all} refl, each_same b.grades))
-
--- four parts taken from a sum one after another
-module _ (s a b c d : ℕ) where
-  pub first_more : s < a → false ≡ eqb s (a + (b + (c + (d + 0))))
-  first_more h = sym (ne_eqb s (a + (b + (c + (d + 0)))) (λ e. omega arith))
-
-  pub second_more : a ≤ s → s - a < b → false ≡ eqb s (a + (b + (c + (d + 0))))
-  second_more g h = sym (ne_eqb s (a + (b + (c + (d + 0)))) (λ e. omega arith))
-
-  pub third_more : a ≤ s → b ≤ s - a → s - a - b < c → false ≡ eqb s (a + (b + (c + (d + 0))))
-  third_more f g h = sym (ne_eqb s (a + (b + (c + (d + 0)))) (λ e. omega arith))
-
-  pub rest_last : a ≤ s → b ≤ s - a → c ≤ s - a - b → eqb (s - a - b - c) d ≡ eqb s (a + (b + (c + (d + 0))))
-  rest_last f g h =
-      ⊎_elim
-      (λ (e : s - a - b - c ≡ d). eq-eqb (s - a - b - c) d e ∙ sym (eq-eqb s (a + (b + (c + (d + 0)))) (omega arith)))
-      (λ (n : s - a - b - c ≡ d → ⊥). ne_eqb (s - a - b - c) d n ∙ sym (ne_eqb s (a + (b + (c + (d + 0)))) (λ e. n (omega arith))))
-      (same (s - a - b - c) d)
 
 -- the sum over the four grades, as the code forms it
 abbrev pub four : (Totals → ℕ) → List Totals → ℕ

@@ -1,8 +1,8 @@
 -- What functions of sums ask for and answer; it is no part of what sums mean.
-use Rattle.std.specs.Prelude.{ℕ, ◌*◌, ◌≤◌, ◌≡◌, get_or}
+use Rattle.std.specs.Prelude.{ℕ, ◌*◌, ◌≤◌, ◌≡◌, Result, Ok, Err, get_or}
 use Rattle.base.specs.Limits.{most_cars, grade_count}
-use Rattle.car.specs.declared.CarAnswer.{CarAnswer}
-use Rattle.car.specs.declared.CarAnswer.TheVariants.{Accepted, Refused}
+use Rattle.base.specs.declared.refusal.Refusal.{Refusal}
+use Rattle.car.specs.declared.Figures.{Figures}
 use Rattle.summing.specs.declared.Totals.{Totals}
 use Rattle.summing.specs.declared.Sums.{Sums}
 use Rattle.summing.specs.Sums.{Shown, most_in_train, no_totals, together}
@@ -32,6 +32,6 @@ pub record Room (n : ℕ) (s : Sums) : Type 0 where
   pub grade : (k : ℕ) → Small n (get_or s.grades k no_totals)
 
 -- a car is accepted only with a grade that there is
-abbrev pub Graded : ℕ → CarAnswer → Type 0
-Graded grade (Accepted f) = (1 ≤ grade) × (grade ≤ grade_count)
-Graded grade (Refused n) = Unit {0}
+abbrev pub Graded : ℕ → Result Figures Refusal → Type 0
+Graded grade (Ok f) = (1 ≤ grade) × (grade ≤ grade_count)
+Graded grade (Err r) = Unit {0}

@@ -1,16 +1,15 @@
-// Accepted cars and their total masses, of all cars and of each grade: with one car more, whether two are the same, and whether those of all are the sums of
-// the grades'.
+// Accepted cars and their total masses, of all cars and of each grade: with one car more, and whether those of all are the sums of the grades'.
 #![tactic(auto)]
 
 ghost use Rattle.std.specs.Prelude.{◌≡◌, ℕ, ◌+◌, eqb};
 ghost use Rattle.base.specs.Limits.{most_cars};
-ghost use Rattle.summing.specs.Sums.{together, same_totals, same_sums, with_car};
+ghost use Rattle.summing.specs.Sums.{together, same_totals, with_car};
 ghost use Rattle.summing.specs.Inner.{Small, shown_as};
 
 use base::GRADES;
 
 // How many cars are accepted, and their gross and net in kg.
-#[derive(Clone, Copy)]
+#[derive(Clone, Copy, Debug, PartialEq, Eq)]
 pub struct Totals {
     pub accepted: u32,
     pub gross: u64,
@@ -18,28 +17,17 @@ pub struct Totals {
 }
 
 // The totals of all accepted cars, and of those of each grade, grade 1 first.
-#[derive(Clone, Copy)]
+#[derive(Clone, Copy, Debug, PartialEq, Eq)]
 pub struct Sums {
     pub all: Totals,
     pub grades: [Totals; GRADES],
 }
 
-// Whether four numbers make a sum. They are taken from it one after another, so that none of any size overflows.
+// Whether four numbers make a sum. They are added in 128 bits, so that none of any size overflows.
 fn is_sum(sum: u64, a: u64, b: u64, c: u64, d: u64) -> bool
     ensures { result ≡ eqb sum (a + (b + (c + (d + 0)))) }
 {
-    if sum < a {
-        return false;
-    }
-    let without_a = sum - a;
-    if without_a < b {
-        return false;
-    }
-    let without_b = without_a - b;
-    if without_b < c {
-        return false;
-    }
-    without_b - c == d
+    u128::from(a) + u128::from(b) + u128::from(c) + u128::from(d) == u128::from(sum)
 }
 
 impl Totals {
@@ -50,44 +38,10 @@ impl Totals {
     {
         Totals {
             accepted: self.accepted + 1,
-            gross: self.gross + gross as u64,
-            net: self.net + net as u64,
+            gross: self.gross + u64::from(gross),
+            net: self.net + u64::from(net),
         }
     }
-}
-
-// Whether two totals are the same.
-fn same_totals(a: Totals, b: Totals) -> bool
-    ensures { result ≡ same_totals a b }
-{
-    if a.accepted != b.accepted {
-        return false;
-    }
-    if a.gross != b.gross {
-        return false;
-    }
-    a.net == b.net
-}
-
-// Whether two sums are the same, of all cars and of each grade.
-pub fn same(a: Sums, b: Sums) -> bool
-    ensures { result ≡ same_sums a b }
-{
-    let x = a.all;
-    let y = b.all;
-    if !same_totals(x, y) {
-        return false;
-    }
-    let mut i: usize = 0;
-    while i < GRADES {
-        let x = a.grades[i];
-        let y = b.grades[i];
-        if !same_totals(x, y) {
-            return false;
-        }
-        i += 1;
-    }
-    true
 }
 
 // Whether the totals of all cars are the sums of the grades'.
@@ -95,21 +49,15 @@ pub fn adds_up(sums: Sums) -> bool
     ensures { result ≡ same_totals sums.all (together sums.grades) }
 {
     let all = sums.all;
-    let a = sums.grades[0];
-    let b = sums.grades[1];
-    let c = sums.grades[2];
-    let d = sums.grades[3];
-    if !is_sum(
+    let [a, b, c, d] = sums.grades;
+    let accepted = is_sum(
         all.accepted as u64,
         a.accepted as u64,
         b.accepted as u64,
         c.accepted as u64,
         d.accepted as u64,
-    ) {
-        return false;
-    }
-    if !is_sum(all.gross, a.gross, b.gross, c.gross, d.gross) {
-        return false;
-    }
-    is_sum(all.net, a.net, b.net, c.net, d.net)
+    );
+    let gross = is_sum(all.gross, a.gross, b.gross, c.gross, d.gross);
+    let net = is_sum(all.net, a.net, b.net, c.net, d.net);
+    accepted && gross && net
 }

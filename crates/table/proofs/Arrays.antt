@@ -10,16 +10,15 @@ use native.Mathlib.Omega.{arith}
 use lib.ListN.{length, get_or, take, drop, length-append, get_or-eq_default}
 use lib.Seq.{drop-cons}
 use lib.Dec.{eqb}
-use Rattle.base.specs.Answer.{accepts, first, number_of}
+use Rattle.base.specs.Answer.{accepts, first}
 use Rattle.base.specs.Limits.{most_tables, most_rows}
 use Rattle.base.specs.Numbers.{member}
-use Rattle.base.proofs.Answer.{passed}
 use Rattle.base.proofs.Choice.{below, same}
 use Rattle.table.specs.declared.Directory.{Directory}
-use Rattle.table.specs.Table.{Row, row_of, later_row_bad, row_bad, rows_tests, tables_tests_after, tables_tests, tables_verdict, unknown}
+use Rattle.table.specs.Table.{Row, row_of, later_row_bad, row_bad, rows_tests, tables_tests_after, tables_verdict, unknown}
 use Rattle.table.specs.Layout.{rows_from, table_at, tables_from, tables_of, types_of}
 use Rattle.table.specs.Inner.{Good}
-use Rattle.table.proofs.Table.{tables_numbered, next_table}
+use Rattle.table.proofs.Table.{next_table}
 
 pub one_left : (e i : ℕ) → i < e → e - i ≡ suc (e - (i + 1))
 one_left e i h = omega arith
@@ -73,8 +72,8 @@ module _ (types rows levels capacities : List ℕ) where
   tables_none k n h = ap (tables_from types rows levels capacities k) (none_left n k h)
 
 -- tables in which `check_tables` finds nothing
-pub good_tables : {d : Directory} {levels capacities : List ℕ} → number_of (tables_verdict (tables_of d levels capacities)) ≡ 0 → Good d levels capacities
-good_tables {d} {levels} {capacities} e = record { accepted = passed (tables_tests (tables_of d levels capacities)) (tables_numbered (tables_of d levels capacities)) refl e }
+pub good_tables : {d : Directory} {levels capacities : List ℕ} → accepts ≡ tables_verdict (tables_of d levels capacities) → Good d levels capacities
+good_tables e = record { accepted = sym e }
 
 -- What good tables have, each at its place in the directory.
 

@@ -3,6 +3,7 @@ use Rattle.std.specs.Prelude.{ℕ, zero, suc, ◌+◌, ◌*◌, List, [], ◌∷
 use Rattle.base.specs.Limits.{most_tables, most_rows}
 use Rattle.table.specs.Table.{Row, row_of, Table}
 use Rattle.table.specs.declared.Directory.{Directory}
+use Rattle.table.specs.declared.Tables.{Tables}
 
 -- how many rows there is room for
 abbrev pub places : ℕ
@@ -27,6 +28,10 @@ tables_from types rows levels capacities k (suc n) =
 
 abbrev pub tables_of : Directory → List ℕ → List ℕ → List Table
 tables_of d levels capacities = tables_from d.types d.rows levels capacities 0 d.count
+
+-- the tables that lie in arrays beside their directory
+abbrev pub tables_in : Tables → List Table
+tables_in t = tables_from t.types t.rows t.levels.now t.capacities.now 0 t.count
 
 -- the types of a directory's tables
 abbrev pub types_of : Directory → List ℕ

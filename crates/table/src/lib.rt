@@ -12,3 +12,14 @@ pub struct Directory {
     pub rows: [u32; base::MOST_TABLES],
     pub count: u32,
 }
+
+// Capacity tables: how many there are, their types, how many rows each has, and the levels (mm) and capacities (dm³) of the rows,
+// which are lent: row i of table k is number 400 k + i.
+#[derive(Clone, Copy)]
+pub struct Tables<'a> {
+    pub count: u32,
+    pub types: [u32; base::MOST_TABLES],
+    pub rows: [u32; base::MOST_TABLES],
+    pub levels: &'a [u32; PLACES],
+    pub capacities: &'a [u32; PLACES],
+}

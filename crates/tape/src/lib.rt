@@ -2,11 +2,11 @@
 #![tactic(auto)]
 
 ghost use Rattle.std.specs.Prelude.{◌≡◌};
-ghost use Rattle.dip.specs.Tape.{allowance_answer, allowance_told};
+ghost use Rattle.base.specs.Refusal.{figure_told};
+ghost use Rattle.dip.specs.Tape.{off_tape, allowance_answer};
 ghost use Rattle.dip.specs.Formula.{FormulaRight};
 
-use base::{HIGHEST_LEVEL, TENTHS};
-use dip::Allowance;
+use base::{HIGHEST_LEVEL, Refusal, TENTHS};
 
 // The highest level that a tape takes, and a metre.
 const HIGHEST: u64 = TENTHS * HIGHEST_LEVEL as u64;
@@ -18,17 +18,20 @@ const FIRST_METRE: u64 = 30;
 
 const FURTHER_METRE: u64 = 15;
 
-// The tape allowance for a level of 10 to 36,000 tenths; refusal 16 for any other.
-pub fn tape_allowance(level: u64) -> Allowance
-    ensures { (allowance_told result ≡ allowance_answer level) × FormulaRight level (allowance_told result) }
+// Whether a level is outside 1 to 3,600 mm.
+fn is_off_tape(level: u64) -> bool
+    ensures { result ≡ off_tape level }
 {
-    if level < TENTHS {
-        return Allowance::Refused(16); // below 1 mm
-    }
-    if HIGHEST < level {
-        return Allowance::Refused(16); // above 3,600 mm
+    level < TENTHS || HIGHEST < level
+}
+
+// The tape allowance in 0.01 mm for a level of 10 to 36,000 tenths; refusal 16 for any other.
+pub fn tape_allowance(level: u64) -> Result<u32, Refusal>
+    ensures { (figure_told result ≡ allowance_answer level) × FormulaRight level (figure_told result) }
+{
+    if is_off_tape(level) {
+        return Err(Refusal::Level);
     }
     let further = (level - 1) / METRE;
-    let allowance = (FIRST_METRE + FURTHER_METRE * further) as u32;
-    Allowance::HundredthsOfMillimetre(allowance)
+    Ok((FIRST_METRE + FURTHER_METRE * further) as u32)
 }

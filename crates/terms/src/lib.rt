@@ -3,7 +3,8 @@
 #![tactic(auto)]
 
 ghost use Rattle.std.specs.Prelude.{◌≡◌, false, ◌≤◌};
-ghost use Rattle.base.specs.Answer.{first_number};
+ghost use Rattle.base.specs.Answer.{first};
+ghost use Rattle.base.specs.Refusal.{verdict_told};
 ghost use Rattle.table.specs.Table.{later_row_bad};
 ghost use Rattle.gauging.specs.Inner.{gap_of};
 ghost use Rattle.heating.specs.Limits.{highest_temperature};
@@ -27,6 +28,7 @@ ghost use Rattle.accuracy.specs.Inner.{
 };
 
 use accuracy::Errors;
+use base::Refusal;
 use gauging::Neighbours;
 use thermal::UNITY;
 
@@ -42,32 +44,24 @@ pub const MOST_LEVEL_TERM: u64 = 10_000;
 // The limit of the greatest sum of squares.
 const MOST_LIMIT: u64 = 22_789;
 
-// 24; 0 where it does not apply.
-pub fn errors_refusal(e: Errors) -> u32
-    ensures { result ≡ first_number (error_tests e) }
+// 24.
+pub fn check_errors(e: Errors) -> Result<(), Refusal>
+    ensures { verdict_told result ≡ first (error_tests e) }
 {
-    if MOST_SHARE < e.capacity {
-        return 24;
+    if MOST_SHARE < e.capacity
+        || MOST_SHARE < e.density
+        || MOST_SHARE < e.processing
+        || MOST_TEMPERATURE_ERROR < e.density_temperature
+        || MOST_TEMPERATURE_ERROR < e.oil_temperature
+        || MOST_LEVEL_ERROR < e.level
+    {
+        return Err(Refusal::GivenError);
     }
-    if MOST_SHARE < e.density {
-        return 24;
-    }
-    if MOST_SHARE < e.processing {
-        return 24;
-    }
-    if MOST_TEMPERATURE_ERROR < e.density_temperature {
-        return 24;
-    }
-    if MOST_TEMPERATURE_ERROR < e.oil_temperature {
-        return 24;
-    }
-    if MOST_LEVEL_ERROR < e.level {
-        return 24;
-    }
-    0
+    Ok(())
 }
 
 // Of the level error, in 0.1 mm, between two neighbouring rows, for V0 in 0.01 dm³.
+#[tactic(auto, unfolding(accuracy::specs::Terms::level_term))]
 pub fn level_term(error: u32, rows: Neighbours, v0: u32) -> u64
     requires { (error ≤ most_level_error) × (later_row_bad (gap_of rows).low (gap_of rows).high ≡ false) }
     ensures { result ≡ Terms.level_term error (gap_of rows) v0 }
@@ -81,6 +75,7 @@ pub fn level_term(error: u32, rows: Neighbours, v0: u32) -> u64
 }
 
 // Of a temperature error, in 0.1 °C, with b for B.
+#[tactic(auto, using(accuracy::proofs::Bounds::temperature_term_most), unfolding(accuracy::specs::Terms::temperature_term))]
 fn temperature_term(b: u32, error: u32) -> u64
     requires { (b ≤ most_expansion) × (error ≤ most_temperature_error) }
     ensures { (result ≡ Terms.temperature_term b error) × (result ≤ most_temperature_term) }
@@ -89,6 +84,7 @@ fn temperature_term(b: u32, error: u32) -> u64
 }
 
 // G, in millionths, for the oil temperature in 0.1 °C.
+#[tactic(auto, using(accuracy::proofs::Bounds::density_factor_most), unfolding(accuracy::specs::Terms::density_factor))]
 fn density_factor(b: u32, temperature: u32) -> u64
     requires { (b ≤ most_expansion) × (temperature ≤ highest_temperature) }
     ensures { (result ≡ Terms.density_factor b temperature) × (result ≤ most_density_factor) }
@@ -99,6 +95,7 @@ fn density_factor(b: u32, temperature: u32) -> u64
 }
 
 // A term times G, by R again.
+#[tactic(auto, unfolding(accuracy::specs::Terms::times_factor))]
 fn times_factor(term: u64, factor: u64) -> u64
     requires { (term ≤ most_share) × (factor ≤ most_density_factor) }
     ensures { result ≡ Terms.times_factor term factor }
@@ -126,6 +123,7 @@ pub fn sum_of_squares(e: Errors, level: u64, b: u32, temperature: u32) -> u64
 }
 
 // The limit for a sum of squares, found by halving the interval in which it lies, 15 times at most.
+// The loop is a `while`, since both ends move: no `for` has that form.
 pub fn limit_of(sum: u64) -> u32
     requires { sum ≤ most_sum }
     ensures { IsLimit sum result × (result ≤ most_limit) }

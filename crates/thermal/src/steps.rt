@@ -4,7 +4,6 @@ ghost use Rattle.base.specs.Rounding.{rounded};
 ghost use Rattle.heating.specs.Steps;
 ghost use Rattle.heating.specs.Steps.{unity};
 ghost use Rattle.heating.specs.Inner.{
-  Known,
   most_above15,
   most_expansion,
   most_exponent,
@@ -48,7 +47,7 @@ fn series(x: u64) -> u64
 
 // Step 6: E(d), in 10⁻¹⁰, for d tenths of a degree.
 pub fn factor_at(oil: Oil, d: u32) -> u64
-    requires { Known oil × (d ≤ most_above15) }
+    requires { d ≤ most_above15 }
     ensures { (result ≡ Steps.factor oil.density.0 d) × (result ≤ most_factor) }
 {
     series(exponent(oil.expansion, d))
@@ -56,7 +55,7 @@ pub fn factor_at(oil: Oil, d: u32) -> u64
 
 // Step 9, for any temperature: the density d tenths of a degree above 15 °C, in 0.1 kg/m³.
 pub fn density_at(oil: Oil, d: u32) -> u32
-    requires { Known oil × (d ≤ most_above15) }
+    requires { d ≤ most_above15 }
     ensures { result ≡ Steps.density_at oil.density.0 d }
 {
     let density = oil.density;
@@ -65,7 +64,6 @@ pub fn density_at(oil: Oil, d: u32) -> u32
 
 // Step 9: the density at 20 °C.
 pub fn density_20(oil: Oil) -> Density20
-    requires { Known oil }
     ensures { result.0 ≡ Steps.density20 oil.density.0 }
 {
     Density20(density_at(oil, 50))

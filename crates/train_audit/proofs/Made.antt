@@ -20,7 +20,6 @@ pub record Of (gs xs ys : List ℕ) (t : Train) : Type 0 where
   pub nets : t.nets ≡ ys
 
 -- the sums after i of n cars
--- the sums after i of n cars
 pub record Made (n : ℕ) (grades grosses nets : List ℕ) (all : Totals) (of_grades : List Totals) (i : ℕ) : Type 0 where
   pub few : i ≤ n
   pub room : Room i (sums_from all of_grades)

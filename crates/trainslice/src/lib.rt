@@ -4,10 +4,12 @@
 ghost use Rattle.std.specs.Prelude.{◌≡◌, ◌+◌, ◌≤◌, length};
 ghost use Rattle.base.specs.Buffer.{put};
 ghost use Rattle.base.specs.Limits.{most_cars};
+ghost use Rattle.consist.specs.Lent.{tallied};
 ghost use Rattle.train.specs.Told.{train_told};
 ghost use Rattle.trainslice.specs.Layout.{joined, totals_places, totals_at, totals_numbers, sums_places, train_places, row_at, train_of, sums_numbers, train_numbers};
 
 use base::{GRADES, MOST_CARS};
+use consist::HeldCars;
 use summing::{Sums, Totals};
 use train::Train;
 
@@ -35,7 +37,7 @@ const HALF: u64 = 4_294_967_296;
 fn joined(low: u32, high: u32) -> u64
     ensures { result ≡ joined low high }
 {
-    low as u64 + HALF * high as u64
+    u64::from(low) + HALF * u64::from(high)
 }
 
 // The totals that lie from `at` on.
@@ -55,9 +57,7 @@ fn row_at(numbers: &[u32], at: usize) -> [u32; MOST_CARS]
     requires { at + most_cars ≤ length numbers.now }
     ensures { result ≡ row_at numbers.now at }
 {
-    let mut row = [0u32; MOST_CARS];
-    marshalling::copy(&numbers[at..at + MOST_CARS], &mut row);
-    row
+    *marshalling::array_of(&numbers[at..at + MOST_CARS])
 }
 
 // The train that lies in a slice.
@@ -65,24 +65,23 @@ pub fn train_of(numbers: &[u32]) -> Train
     requires { length numbers.now ≡ train_places }
     ensures { train_told result ≡ train_of numbers.now }
 {
-    let of_grades = [
-        totals_at(numbers, TOTALS_PLACES),
-        totals_at(numbers, 2 * TOTALS_PLACES),
-        totals_at(numbers, 3 * TOTALS_PLACES),
-        totals_at(numbers, 4 * TOTALS_PLACES),
-    ];
     let sums = Sums {
         all: totals_at(numbers, 0),
-        grades: of_grades,
+        grades: [
+            totals_at(numbers, TOTALS_PLACES),
+            totals_at(numbers, 2 * TOTALS_PLACES),
+            totals_at(numbers, 3 * TOTALS_PLACES),
+            totals_at(numbers, 4 * TOTALS_PLACES),
+        ],
     };
-    Train {
-        sums,
+    let cars = HeldCars {
         held: numbers[SUMS_PLACES],
         numbers: row_at(numbers, NUMBERS),
         grades: row_at(numbers, GRADES_HELD),
         grosses: row_at(numbers, GROSSES),
         nets: row_at(numbers, NETS),
-    }
+    };
+    Train { sums, cars }
 }
 
 // Writes totals from `at` on.
@@ -105,30 +104,21 @@ fn write_sums(sums: Sums, to: &mut [u32])
     requires { sums_places ≤ length to.old }
     ensures { to.new ≡ put to.old 0 (sums_numbers sums) }
 {
-    let all = sums.all;
-    write_totals(all, to, 0);
-    let mut i: usize = 0;
-    while i < GRADES {
-        let of_grade = sums.grades[i];
+    write_totals(sums.all, to, 0);
+    for (i, &of_grade) in sums.grades.iter().enumerate() {
         write_totals(of_grade, to, TOTALS_PLACES + i * TOTALS_PLACES);
-        i += 1;
     }
 }
 
-// Writes a train into its slice, from which it is read again.
-pub fn write_train(train: Train, to: &mut [u32])
+// Writes a train, by its sums and its cars, into its slice, from which it is read again.
+pub fn write_train(sums: Sums, cars: &HeldCars, to: &mut [u32])
     requires { length to.old ≡ train_places }
-    ensures { (to.new ≡ train_numbers (train_told train)) × (train_of to.new ≡ train_told train) }
+    ensures { (to.new ≡ train_numbers (tallied sums cars.now)) × (train_of to.new ≡ tallied sums cars.now) }
 {
-    let sums = train.sums;
     write_sums(sums, to);
-    to[SUMS_PLACES] = train.held;
-    let numbers = train.numbers;
-    marshalling::copy_at(&numbers, to, NUMBERS);
-    let grades = train.grades;
-    marshalling::copy_at(&grades, to, GRADES_HELD);
-    let grosses = train.grosses;
-    marshalling::copy_at(&grosses, to, GROSSES);
-    let nets = train.nets;
-    marshalling::copy_at(&nets, to, NETS);
+    to[SUMS_PLACES] = cars.held;
+    marshalling::copy_at(&cars.numbers, to, NUMBERS);
+    marshalling::copy_at(&cars.grades, to, GRADES_HELD);
+    marshalling::copy_at(&cars.grosses, to, GROSSES);
+    marshalling::copy_at(&cars.nets, to, NETS);
 }

@@ -1,27 +1,17 @@
 -- `capacity::checked_volume` meets its contract: the refusal of the tables, or the answer on tables that are not refused.
-use mathlib.Core.List.{List}
-use mathlib.Core.Path.{sym, ◌∙◌}
-use Rattle.table.specs.Table.{Table}
-use Rattle.table.specs.Layout.{tables_of}
-use Rattle.table.specs.Inner.{Good}
-use Rattle.table.proofs.Arrays.{good_tables}
+use mathlib.Core.Path.{sym}
+use Rattle.std.proofs.lemmas.Result.{err_from_is_err_and}
+use Rattle.table.specs.Layout.{tables_in}
 use Rattle.gauging.proofs.Answers.{tables_refused, tables_accepted}
 use Rattle.capacity.proofs.checked_volume.Goals as goal
-use Rattle.capacity.proofs.checked_volume.Goals.{Else-refusal-ne0, Start}
 
-abbrev all : Start → List Table
-all s = tables_of s.args.d s.args.levels.now s.args.capacities.now
-
-good : (c : Else-refusal-ne0) → let a = c.args in Good a.d a.levels.now a.capacities.now
-good c = good_tables (sym c.check_tables-refusal.ensures ∙ c.if-refusal-ne0.false)
-
-pub returns-then-refusal-ne0 : goal.returns-then-refusal-ne0
-returns-then-refusal-ne0 c =
-    tables_refused (all (goal.at.returns-then-refusal-ne0 c).Start) c.args.kind c.args.mean c.args.water c.check_tables-refusal.ensures c.if-refusal-ne0.true
-
-pub volume_on-requires : goal.volume_on-requires
-volume_on-requires c = good c
+pub returns-in_err-check_tables : goal.returns-in_err-check_tables
+returns-in_err-check_tables c =
+    let a = c.args in
+    let p = err_from_is_err_and c.from_residual.result c.from_residual.ensures.1 in
+    rw (p.1, p.2) (tables_refused (tables_in a.tables.now) a.kind a.mean a.water (sym c.in_err-check_tables.ensures))
 
 pub returns : goal.returns
 returns c =
-    tables_accepted (all (goal.at.returns c).Start) c.args.kind c.args.mean c.args.water (good (goal.at.returns c).Else-refusal-ne0).accepted c.volume_on.ensures
+    let a = c.args in
+    tables_accepted (tables_in a.tables.now) a.kind a.mean a.water (sym c.in_ok-check_tables.ensures) c.volume_on.ensures

@@ -1,62 +1,38 @@
 -- `comparing::stick_against_tape` meets its contract: at each `return` the tests that led there give the answer.
-use Prim.Native.Nat.{◌≤◌, ◌<◌}
-use mathlib.Core.Path.{◌≡◌, refl, subst, ◌∙◌}
-use mathlib.Core.Logic.{inl, inr}
+use Prim.Native.Nat.{◌≤◌}
+use mathlib.Core.Path.{◌≡◌, refl, sym, ◌∙◌}
 use native.Mathlib.Omega.{arith}
 use borrow.Author.Rules.{rules}
 use lib.ListN.{length}
-use Rattle.base.proofs.Numbers.{inside_back, beyond_back}
-use Rattle.comparison.specs.Answers.{fewest_readings, most_readings, given, check_answer}
+use Rattle.std.proofs.lemmas.Result.{err_from_is_err_and}
+use Rattle.comparison.specs.Answers.{most_readings, check_answer}
 use Rattle.comparison.proofs.Exchange.{check_right}
-use Rattle.comparing.specs.Inner.{InRange, SumRight}
+use Rattle.comparison.proofs.Ranges.{count_in}
 use Rattle.comparing.proofs.Readings.{given_most}
 use Rattle.comparing.proofs.stick_against_tape.Goals as goal
-use Rattle.comparing.proofs.stick_against_tape.Goals.{In-Millimetres, Start}
 
--- behind both tests of 28, with the sum of the readings
-abbrev start : In-Millimetres → Start
-start c = c.before.before.before.before
-
-fewest : (c : In-Millimetres) → fewest_readings ≤ (start c).args.count
-fewest c = omega (arith, c.if-count-lt-FEWEST_READINGS.false)
-
-most : (c : In-Millimetres) → (start c).args.count ≤ most_readings
-most c = omega (arith, c.if-count-gt-MOST_READINGS.false)
-
-room : (c : In-Millimetres) → (start c).args.count ≤ length (start c).args.readings
-room c = let full : length (start c).args.readings ≡ most_readings = search rules in omega (arith, full, most c)
-
-sum-right : (c : In-Millimetres) → InRange (given (start c).args.count (start c).args.readings) c.in-Millimetres.sum
-sum-right c = subst (SumRight (given (start c).args.count (start c).args.readings)) c.in-Millimetres.is c.sum_of.ensures
-
-pub returns-then-count-lt-FEWEST_READINGS : goal.returns-then-count-lt-FEWEST_READINGS
+pub returns-then-is_count_bad : goal.returns-then-is_count_bad
 unfolding check_answer
-returns-then-count-lt-FEWEST_READINGS c =
-    let few : c.args.count < fewest_readings = omega (arith, c.if-count-lt-FEWEST_READINGS.true) in
-    check_right _ _ _ _ (search rules) (rw (beyond_back fewest_readings most_readings _ (inl few)) refl)
+returns-then-is_count_bad c = check_right _ _ _ _ (search rules) (rw (sym c.is_count_bad.ensures ∙ c.if-is_count_bad.true) refl)
 
-pub returns-then-count-gt-MOST_READINGS : goal.returns-then-count-gt-MOST_READINGS
+pub returns-in_err-sum : goal.returns-in_err-sum
 unfolding check_answer
-returns-then-count-gt-MOST_READINGS c =
-    let many : most_readings < c.args.count = omega (arith, c.if-count-gt-MOST_READINGS.true) in
-    check_right _ _ _ _ (search rules) (rw (beyond_back fewest_readings most_readings _ (inr many)) refl)
+returns-in_err-sum c =
+    let p = err_from_is_err_and c.from_residual.result c.from_residual.ensures.1 in
+    let bad = c.in_err-sum.ensures in
+    check_right _ _ _ _ (search rules) (rw (p.1, p.2, bad.0, sym c.is_count_bad.ensures ∙ c.if-is_count_bad.false, bad.1) refl)
 
 pub compare_on_tape-requires : goal.compare_on_tape-requires
 compare_on_tape-requires c =
-    let a = (start c).args in
-    let g = given_most a.readings a.count (room c) (sum-right c).none in
-    record { counted = record { least = fewest c; most = most c }; most = omega (arith, (sum-right c).same, g) }
-
-pub returns-in-Millimetres : goal.returns-in-Millimetres
-unfolding check_answer
-returns-in-Millimetres c =
-    check_right _ _ _ _ (search rules) (c.compare_on_tape.ensures ∙ rw (inside_back fewest_readings most_readings _ (fewest (goal.at.returns-in-Millimetres c).In-Millimetres) (most (goal.at.returns-in-Millimetres c).In-Millimetres), (sum-right (goal.at.returns-in-Millimetres c).In-Millimetres).none, ← (sum-right (goal.at.returns-in-Millimetres c).In-Millimetres).same) refl)
-
-pub returns-in-Outside : goal.returns-in-Outside
-unfolding check_answer
-returns-in-Outside c =
     let a = c.args in
-    let few : fewest_readings ≤ a.count = omega (arith, c.if-count-lt-FEWEST_READINGS.false) in
-    let many : a.count ≤ most_readings = omega (arith, c.if-count-gt-MOST_READINGS.false) in
-    let bad = subst (SumRight (given a.count a.readings)) c.in-Outside.is c.sum_of.ensures in
-    check_right _ _ _ _ (search rules) (rw (inside_back fewest_readings most_readings _ few many, bad) refl)
+    let right = c.in_ok-sum.ensures in
+    let few = count_in a.count (sym c.is_count_bad.ensures ∙ c.if-is_count_bad.false) in
+    let full : length a.readings ≡ most_readings = search rules in
+    let room : a.count ≤ length a.readings = omega (arith, full, few.most) in
+    record { counted = few; most = omega (arith, right.same, given_most a.readings a.count room right.none) }
+
+pub returns : goal.returns
+unfolding check_answer
+returns c =
+    let right = c.in_ok-sum.ensures in
+    check_right _ _ _ _ (search rules) (c.compare_on_tape.ensures ∙ rw (sym c.is_count_bad.ensures ∙ c.if-is_count_bad.false, right.none, ← right.same) refl)

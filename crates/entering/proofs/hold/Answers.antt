@@ -1,13 +1,15 @@
 -- `entering::hold` meets its contract: the rows with one car more are the train with its answer.
-use mathlib.Core.Path.{refl}
 use native.Mathlib.Omega.{arith}
-use Rattle.consist.specs.Lent.{lent_train}
+use Rattle.consist.specs.Inner.{Sixty}
+use Rattle.consist.specs.Lent.{train_in}
 use Rattle.consist.proofs.Lent.{lent_sums}
 use Rattle.entering.proofs.Stored.{stored}
 use Rattle.entering.proofs.hold.Goals as goal
 
-pub returns : goal.returns
-returns c =
-    let made = lent_sums c.args.held c.args.numbers.now c.args.grades.now c.args.grosses.now c.args.nets.now in
-    let low = c.requires.1 in
-    (refl, omega arith, λ g. stored ((lent_train c.args.held c.args.numbers.now c.args.grades.now c.args.grosses.now c.args.nets.now)) c.args.number c.args.grade c.args.answer c.requires.0 low made g c.load_of-load.ensures)
+pub returns-clause-held : goal.returns-clause-held
+returns-clause-held c g =
+    let a = c.args in
+    let cars = a.cars.now in
+    let made = lent_sums cars.held cars.numbers cars.grades cars.grosses cars.nets in
+    let sixty : Sixty (train_in cars) = record { numbers = omega arith; grades = omega arith; grosses = omega arith; nets = omega arith } in
+    stored (train_in cars) a.number a.grade a.answer sixty c.requires made g c.load_of-load.ensures

@@ -7,7 +7,7 @@ use lib.ListN.{length-set}
 use Rattle.field.proofs.put_field.Goals as goal
 
 pub loop-i-preserved : goal.loop-i-preserved
-loop-i-preserved c = (search rules, simp length-set (omega arith), simp length-set (simp length-set at c.loop-i.invariant.2), write_turn c.loop-i.out c.args.at c.loop-i.i c.loop-i.rest c.glyph.result _ (search rules) (search rules) c.glyph.ensures c.loop-i.invariant.3)
+loop-i-preserved c = write_turn c.loop-i.out c.args.at c.loop-i.i c.loop-i.rest c.glyph.result _ c.loop-i-test.true (omega (arith, simp length-set at c.loop-i.auto.out)) c.glyph.ensures c.loop-i.invariant
 
 pub returns : goal.returns
-returns c = let a = c.args in write_ended c.loop-i.out a.at c.loop-i.i c.loop-i.rest _ c.loop-i-test.false c.loop-i.invariant.3 ∙ write_last a.out.now a.at a.n (search rules)
+returns c = let a = c.args in write_ended c.loop-i.out a.at c.loop-i.i c.loop-i.rest _ c.loop-i-test.false c.loop-i.invariant ∙ write_last a.out.now a.at a.n (search rules)

@@ -3,21 +3,16 @@ use mathlib.Core.Path.{sym, ◌∙◌}
 use native.Mathlib.Omega.{arith}
 use Rattle.field.proofs.Writing.{too_large, no_room, fits, field_written}
 use Rattle.field.proofs.write_field.Goals as goal
+use Rattle.field.proofs.write_field.Goals.{then-n-gt-LARGEST-via-then-n-gt-LARGEST, then-n-gt-LARGEST-via-else-n-gt-LARGEST+then-out-lt-COLUMNS, then-n-gt-LARGEST-via-else-n-gt-LARGEST+else-out-lt-COLUMNS+then-out-at}
 
 pub returns-then-n-gt-LARGEST : goal.returns-then-n-gt-LARGEST
 returns-then-n-gt-LARGEST c =
     let a = c.args in
-    too_large a.n a.at a.out.now c.if-n-gt-LARGEST.true
-
-pub returns-then-out-lt-COLUMNS : goal.returns-then-out-lt-COLUMNS
-returns-then-out-lt-COLUMNS c =
-    let a = c.args in
-    no_room a.n a.at a.out.now (omega arith)
-
-pub returns-then-out-at : goal.returns-then-out-at
-returns-then-out-at c =
-    let a = c.args in
-    no_room a.n a.at a.out.now (omega arith)
+    elim c.then-n-gt-LARGEST.branch [
+      | then-n-gt-LARGEST-via-then-n-gt-LARGEST w ↦ too_large a.n a.at a.out.now w.if-n-gt-LARGEST.true
+      | then-n-gt-LARGEST-via-else-n-gt-LARGEST+then-out-lt-COLUMNS w ↦ no_room a.n a.at a.out.now (omega (arith, w.if-out-lt-COLUMNS.true))
+      | then-n-gt-LARGEST-via-else-n-gt-LARGEST+else-out-lt-COLUMNS+then-out-at w ↦ no_room a.n a.at a.out.now (omega (arith, w.if-out-at.true))
+    ]
 
 pub returns : goal.returns
 returns c =

@@ -11,4 +11,4 @@ use Rattle.level.proofs.are_scattered.Goals as goal
 pub overflow_sub-result : goal.overflow_sub-result
 overflow_sub-result c =
     let x = c.args.readings in
-    subst⁻¹ (λ (t : List ℕ). get_or t 0 0 ≤ get_or t 2 0) c.closest-t.ensures (closest_rising (sorted x) (rising x (sorted x) (search rules) refl))
+    subst⁻¹ (λ (t : List ℕ). get_or t 0 0 ≤ get_or t 2 0) c.closest.ensures (closest_rising (sorted x) (rising x (sorted x) (search rules) refl))

@@ -7,10 +7,10 @@ pub returns-then-are_apart : goal.returns-then-are_apart
 unfolding mean_level
 returns-then-are_apart c =
     let apart = sym c.are_apart.ensures ∙ c.if-are_apart.true in
-    c.mean_of_three.ensures ∙ ap mean_of_three c.closest-t.ensures ∙ rw apart
+    rw (c.from.ensures, c.from-then-are_apart.ensures, c.from-then-are_apart-2.ensures) at c.rounded_mean.ensures ∙ ap mean_of_three c.closest.ensures ∙ rw apart
 
 pub returns : goal.returns
 unfolding mean_level
 returns c =
     let close = sym c.are_apart.ensures ∙ c.if-are_apart.false in
-    c.mean_of_two.ensures ∙ rw close
+    rw (c.from-2.ensures, c.from-3.ensures) at c.rounded_mean-2.ensures ∙ rw close

@@ -1,11 +1,13 @@
 -- `merge::merge_sheets` meets its contract: 1, the first sheet's own refusal, or what the second makes of it.
 use Prim.Native.Nat.{ℕ, ◌≤◌}
-use mathlib.Core.Path.{◌≡◌, ap, sym, ◌∙◌}
+use mathlib.Core.Path.{refl, ap, sym, subst}
 use mathlib.Core.List.{List}
 use lib.ListN.{take}
-use borrow.Author.Rules.{rules}
+use Rattle.std.specs.Prelude.{Result, Ok, Err, IfOk}
+use Rattle.std.proofs.lemmas.Result.{err_from_is_err_and}
 use Rattle.grammar.specs.Sheet.{sheet_of}
-use Rattle.merge_spec.specs.declared.MergeReply.{MergeReply}
+use Rattle.holding.specs.declared.LineRefusal.{LineRefusal}
+use Rattle.merge_spec.specs.Reply.{reply_of}
 use Rattle.merge_spec.specs.Merge.{Half, half_of, least_merge_buffer, Merges}
 use Rattle.merge_spec.specs.Merged.{MadeOf, MergeLaws}
 use Rattle.merge_spec.specs.Examples.{MergeExamples}
@@ -15,43 +17,38 @@ use Rattle.merge_laws.specs.Pair.{PairExample}
 use Rattle.merge_laws.proofs.Made.{made, low}
 use Rattle.merge_laws.proofs.Laws.{merge_laws}
 use Rattle.merge_laws.proofs.AgainstPair.{pair_example}
-use Rattle.merge.proofs.Answers.{refused_read, whole_good, whole_text, whole_few, whole_half, too_short, answered}
+use Rattle.merge.specs.Inner.{merged_sheets, Gives}
+use Rattle.merge.proofs.Answers.{refused_read, too_short, answered}
 use Rattle.merge.proofs.merge_sheets.Goals as goal
 
 -- all that is promised, by what is handed back and written
-promised : (s r lent : List ℕ) (reply : MergeReply) (left : List ℕ) → Merges s r lent reply left
-    → Merges s r lent reply left × (reply.number ≡ 0 → MadeOf s r (take reply.length left)) × (reply.length ≤ least_merge_buffer) × MergeLaws s r × MergeExamples × PairExample
-promised s r lent reply left m = (m, (λ z. made s r lent reply left z m), low s r lent reply left m, merge_laws s r, merge_examples, pair_example)
+promised : (s r lent : List ℕ) (given : Result ℕ LineRefusal) (left : List ℕ) → Merges s r lent (reply_of given) left
+    → Merges s r lent (reply_of given) left × IfOk given (λ n. MadeOf s r (take n left) × (n ≤ least_merge_buffer)) × MergeLaws s r × MergeExamples × PairExample
+promised s r lent (Ok n) left m =
+    (m, (made s r lent (reply_of (Ok n)) left refl m, low s r lent (reply_of (Ok n)) left m), merge_laws s r, merge_examples, pair_example)
+promised s r lent (Err why) left m = (m, tt, merge_laws s r, merge_examples, pair_example)
 
 pub returns-then-out-lt-LEAST_MERGE_BUFFER : goal.returns-then-out-lt-LEAST_MERGE_BUFFER
 returns-then-out-lt-LEAST_MERGE_BUFFER c =
-    promised c.args.first.now c.args.second.now c.args.out.now _ _ (too_short c.args.first.now c.args.second.now c.args.out.now c.if-out-lt-LEAST_MERGE_BUFFER.true c.refused.ensures)
+    let a = c.args in
+    promised a.first.now a.second.now a.out.now _ _ (too_short a.first.now a.second.now a.out.now c.if-out-lt-LEAST_MERGE_BUFFER.true c.without_line.ensures)
 
-pub overflow_add-contents : goal.overflow_add-contents
-overflow_add-contents c =
-    let few = whole_few c.args.first.now c.read_sheet-contents.result c.read_sheet-contents.new.levels c.read_sheet-contents.new.capacities c.read_sheet-contents.new.fields c.read_sheet-contents.ensures.0 c.in-Whole.is in
-    search (rules, few)
-
-pub merge_second-requires : goal.merge_second-requires
-merge_second-requires c = (
-  c.if-out-lt-LEAST_MERGE_BUFFER.false,
-  whole_few c.args.first.now c.read_sheet-contents.result c.read_sheet-contents.new.levels c.read_sheet-contents.new.capacities c.read_sheet-contents.new.fields c.read_sheet-contents.ensures.0 c.in-Whole.is,
-  whole_good c.args.first.now c.read_sheet-contents.result c.read_sheet-contents.new.levels c.read_sheet-contents.new.capacities c.read_sheet-contents.new.fields c.read_sheet-contents.ensures.0 c.in-Whole.is,
-  whole_text c.args.first.now c.read_sheet-contents.result c.read_sheet-contents.new.levels c.read_sheet-contents.new.capacities c.read_sheet-contents.new.fields c.read_sheet-contents.ensures.0 c.in-Whole.is,
-)
-
-pub returns-in-RefusedAt : goal.returns-in-RefusedAt
-returns-in-RefusedAt c =
+pub returns-in_err-contents : goal.returns-in_err-contents
+returns-in_err-contents c =
+    let a = c.args in
+    let r = c.read_sheet-contents in
+    let p = err_from_is_err_and c.from_residual.result c.from_residual.ensures.1 in
     let q =
-    ap (λ (h : Half). merged_of h (half_of (sheet_of c.args.second.now)))
-    (ap half_of (refused_read c.args.first.now c.read_sheet-contents.result c.read_sheet-contents.new.levels c.read_sheet-contents.new.capacities c.read_sheet-contents.new.fields c.read_sheet-contents.ensures.0 c.in-RefusedAt.is)) in
-    promised c.args.first.now c.args.second.now c.args.out.now _ _
-    (answered c.args.first.now c.args.second.now c.args.out.now c.if-out-lt-LEAST_MERGE_BUFFER.false (c.refused-in-RefusedAt.ensures ∙ sym (ap reply_to q)) (sym (ap (λ (x : Merged). written_for x c.args.out.now) q)))
+    ap (λ (h : Half). merged_of h (half_of (sheet_of a.second.now)))
+    (ap half_of (refused_read a.first.now r.result r.new.levels r.new.capacities r.new.fields r.ensures.0 c.in_err-contents.was)) in
+    rw (p.1, p.2)
+    (promised a.first.now a.second.now a.out.now (Err c.in_err-contents.field-0.0) a.out.now
+    (answered a.first.now a.second.now a.out.now c.if-out-lt-LEAST_MERGE_BUFFER.false (sym (ap reply_to q), sym (ap (λ (x : Merged). written_for x a.out.now) q))))
 
-pub returns-in-Whole : goal.returns-in-Whole
-returns-in-Whole c =
-    let q =
-    ap (λ (h : Half). merged_of h (half_of (sheet_of c.args.second.now)))
-    (whole_half c.args.first.now c.read_sheet-contents.result c.read_sheet-contents.new.levels c.read_sheet-contents.new.capacities c.read_sheet-contents.new.fields c.read_sheet-contents.ensures.0 c.in-Whole.is) in
-    promised c.args.first.now c.args.second.now c.args.out.now _ _
-    (answered c.args.first.now c.args.second.now c.args.out.now c.if-out-lt-LEAST_MERGE_BUFFER.false (c.merge_second.ensures.0 ∙ sym (ap reply_to q)) (c.merge_second.ensures.1 ∙ sym (ap (λ (y : Merged). written_for y c.args.out.now) q)))
+pub returns : goal.returns
+returns c =
+    let a = c.args in
+    let m = c.merge_second in
+    promised a.first.now a.second.now a.out.now m.result m.new.out
+    (answered a.first.now a.second.now a.out.now c.if-out-lt-LEAST_MERGE_BUFFER.false
+    (subst (λ (s : List ℕ). Gives (merged_sheets s a.second.now) a.out.now (reply_of m.result) m.new.out) c.whole_sheet-read.ensures m.ensures))

@@ -1,29 +1,28 @@
 -- `permitting::permitted_error` meets its contract: the car's answer, then the limit beside its figures.
-use mathlib.Core.Path.{◌≡◌}
-use Rattle.table.specs.Layout.{tables_of}
-use Rattle.car.specs.Car.{measured, dipped}
+use Rattle.std.proofs.lemmas.Result.{err_from_is_err_and}
+use Rattle.table.specs.Layout.{tables_in}
+use Rattle.car.specs.Car.{dipped}
 use Rattle.accuracy.specs.Permitted.{permitted_told}
 use Rattle.accuracy.proofs.AgainstCard.{permitted_right}
-use Rattle.permitting.proofs.Answered.{whole, away, level_shown, accepted_as, behind}
+use Rattle.permitting.proofs.Answered.{whole, away, accepted_as, behind}
 use Rattle.permitting.proofs.permitted_error.Goals as goal
-use Rattle.permitting.proofs.permitted_error.Goals.{After-measured_at-m, After-work_alone, Start}
 
--- what is measured of the car
-same : (c : After-measured_at-m) → c.measured_at-m.result ≡ measured c.args.car
-same c =
-    c.measured_at-m.ensures (level_shown ((tables_of c.args.d c.args.levels.now c.args.capacities.now)) (dipped c.args.car) c.work_alone.ensures c.in-Accepted.is)
+pub returns-in_err-six : goal.returns-in_err-six
+returns-in_err-six c =
+    let r = err_from_is_err_and c.from_residual.result c.from_residual.ensures.1 in
+    let h = dipped c.args.car in
+    rw (r.1, r.2) (away permitted_right (tables_in c.args.tables.now) h c.args.errors (c.in_err-six.ensures h c.dipped-car.ensures.stands))
 
 pub limit_beside-requires : goal.limit_beside-requires
 limit_beside-requires c =
-    let p = behind ((tables_of c.args.d c.args.levels.now c.args.capacities.now)) (dipped c.args.car) c.work_alone.ensures c.in-Accepted.is (same c) in
-    (p.0, p.1, rw (same c) c.expansion-expansion.ensures)
-
-pub returns-in-Accepted : goal.returns-in-Accepted
-returns-in-Accepted c =
     let h = dipped c.args.car in
-    whole permitted_right ((tables_of c.args.d c.args.levels.now c.args.capacities.now)) h c.args.errors (permitted_told c.limit_beside.result)
-    (c.limit_beside.ensures h (accepted_as ((tables_of c.args.d c.args.levels.now c.args.capacities.now)) h c.work_alone.ensures c.in-Accepted.is (same (goal.at.returns-in-Accepted c).After-measured_at-m)))
+    let s = c.dipped-car.ensures.stands in
+    let p = behind (tables_in c.args.tables.now) h (c.in_ok-six.ensures h s) s.measured in
+    (p.0, p.1, c.expansion-expansion.ensures)
 
-pub returns-in-Refused : goal.returns-in-Refused
-returns-in-Refused c =
-    away permitted_right ((tables_of c.args.d c.args.levels.now c.args.capacities.now)) (dipped c.args.car) c.args.errors c.work_alone.ensures c.in-Refused.is
+pub returns : goal.returns
+returns c =
+    let ts = tables_in c.args.tables.now in
+    let h = dipped c.args.car in
+    let s = c.dipped-car.ensures.stands in
+    whole permitted_right ts h c.args.errors (permitted_told c.limit_beside.result) (c.limit_beside.ensures h (accepted_as ts h (c.in_ok-six.ensures h s) s.measured))

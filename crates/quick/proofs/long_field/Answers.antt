@@ -3,12 +3,12 @@ use borrow.Author.Tests.{eq-eqb}
 use Rattle.quick.proofs.Columns.{short_read, long_read}
 use Rattle.quick.proofs.long_field.Goals as goal
 
-pub returns-then-n-le-LARGEST : goal.returns-then-n-le-LARGEST
-returns-then-n-le-LARGEST c =
-    short_read _ _ c.first_four-f.result c.last_four.result c.first_four-f.ensures c.last_four.ensures c.if-s-at-eq32.true
-    (eq-eqb _ _ c.if-f-eq32.true) (eq-eqb _ _ c.if-f-eq32-2.true) _ (eq-eqb _ _ c.if-f-eq32-3.true) (eq-eqb _ _ c.if-f-eq32-4.true) (c.short_number-n.ensures c.if-n-le-LARGEST.true)
+pub returns-in-Some : goal.returns-in-Some
+returns-in-Some c =
+    short_read _ _ c.first_four-f.result c.last_four-l.result c.first_four-f.ensures c.last_four-l.ensures c.if-s-at-eq32.true
+    (eq-eqb _ _ c.if-f-eq32.true) (eq-eqb _ _ c.if-f-eq32-2.true) _ (eq-eqb _ _ c.if-f-eq32-3.true) (eq-eqb _ _ c.if-f-eq32-4.true) (c.short_number.ensures _ c.in-Some.is)
 
-pub returns-then-low-le-LARGEST : goal.returns-then-low-le-LARGEST
-returns-then-low-le-LARGEST c =
+pub returns-in-Some-four_digits : goal.returns-in-Some-four_digits
+returns-in-Some-four_digits c =
     long_read _ _ c.first_four-f.result c.last_four-l.result c.first_four-f.ensures c.last_four-l.ensures c.if-s-at-eq32.true
-    (eq-eqb _ _ c.if-f-eq32.true) (eq-eqb _ _ c.if-f-eq32-2.true) _ _ (c.high_number-high.ensures c.if-high-le-LARGEST.true) (c.four_digits-low.ensures c.if-low-le-LARGEST.true)
+    (eq-eqb _ _ c.if-f-eq32.true) (eq-eqb _ _ c.if-f-eq32-2.true) _ _ (c.high_number.ensures _ c.in-Some-high_number.is) (c.four_digits.ensures _ c.in-Some-four_digits.is)

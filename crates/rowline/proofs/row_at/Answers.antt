@@ -1,20 +1,27 @@
 -- `rowline::row_at` meets its contract: a line has passed its tests, or fails one of them.
-use mathlib.Core.Path.{◌∙◌}
+use mathlib.Core.Path.{sym, ◌∙◌, ◌≡◌}
+use Prim.Native.Nat.{ℕ}
+use Rattle.std.specs.Prelude.{Option, Some, None}
 use native.Mathlib.Omega.{arith}
+use Rattle.base.proofs.Choice.{never}
 use Rattle.reading.proofs.Row.{row_some, row_none}
 use Rattle.rowline.proofs.row_at.Goals as goal
 
-pub returns-then-second-le-LARGEST : goal.returns-then-second-le-LARGEST
-returns-then-second-le-LARGEST c =
-    let a = c.args in
-    rw (c.short_field-first.ensures, c.long_field-second.ensures)
-    (row_some a.s.now a.at (record {
+pub returns-then-s-at : goal.returns-then-s-at
+returns-then-s-at c = row_none c.args.s.now c.args.at (λ a b h. grind arith)
+
+pub returns-in_err-level : goal.returns-in_err-level
+returns-in_err-level c = c.from_residual.ensures ∙ row_none c.args.s.now c.args.at (λ a b h. let z : ◌≡◌ {A = Option ℕ} None (Some a) = sym c.in_err-level.was ∙ c.short_field.ensures ∙ h.level in never (cc))
+
+pub returns-in_err-capacity : goal.returns-in_err-capacity
+returns-in_err-capacity c = c.from_residual-in_err-capacity.ensures ∙ row_none c.args.s.now c.args.at (λ a b h. let z : ◌≡◌ {A = Option ℕ} None (Some b) = sym c.in_err-capacity.was ∙ c.long_field.ensures ∙ h.capacity in never (cc))
+
+pub returns : goal.returns
+returns c =
+    row_some c.args.s.now c.args.at _ _ (record {
       letter = omega arith;
       room = omega arith;
       feed = omega arith;
-      level = omega (arith, c.short_field-first.ensures);
-      capacity = omega (arith, c.long_field-second.ensures);
-    }))
-
-pub returns : goal.returns
-returns c = c.no_row.ensures ∙ row_none c.args.s.now c.args.at (λ h. grind arith)
+      level = sym c.short_field.ensures ∙ c.in_ok-level.was;
+      capacity = sym c.long_field.ensures ∙ c.in_ok-capacity.was;
+    })

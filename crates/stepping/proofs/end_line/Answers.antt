@@ -11,6 +11,6 @@ pub returns-then-reader-bytes : goal.returns-then-reader-bytes
 unfolding end_line
 returns-then-reader-bytes c = λ l d f. search tests
 
-pub returns : goal.returns
+pub returns-else-reader-bytes : goal.returns-else-reader-bytes
 unfolding end_line
-returns c = λ l d f. search tests
+returns-else-reader-bytes c = λ l d f. search tests

@@ -12,11 +12,7 @@ use Rattle.holding.proofs.Arrays.{rows_held, row_more}
 use Rattle.grammar.proofs.Rules.{row_refused, row_taken}
 use borrow.Author.Rules.{rules}
 use Rattle.stepping.proofs.row_line.Goals as goal
-use Rattle.stepping.proofs.row_line.Goals.{After-directory-1, After-row_bad}
-
--- a directory has four places
-four : (c : After-directory-1) → length c.args.reader.directory.rows ≡ most_tables
-four c = search rules
+use Rattle.stepping.proofs.row_line.Goals.{After-row_bad}
 
 -- the test's result is the definition's
 test : (c : After-row_bad) →
@@ -38,7 +34,7 @@ pub returns : goal.returns
 returns c = λ f.
     let a = c.args in
     let h = a.reader.directory in
-    let len = four (goal.at.returns c).After-directory-1 in
+    let len : length h.rows ≡ most_tables = search rules in
     row_taken (state_in a.reader a.levels.now a.capacities.now f) (row_of a.level a.capacity) _ (test (goal.at.returns c).After-row_bad ∙ c.if-row_bad.false)
     (row_more h.types h.rows a.levels.now a.capacities.now _ _ h.count (h.count - 1) _ a.level a.capacity (omega arith) refl (omega arith)
     (λ j i. c.requires.2.each j (omega arith)) c.store_row.ensures)

@@ -14,11 +14,7 @@ use Rattle.holding.proofs.Arrays.{kinds_first, table_more}
 use Rattle.grammar.proofs.Rules.{table_refused, table_taken}
 use borrow.Author.Rules.{rules}
 use Rattle.stepping.proofs.table_line.Goals as goal
-use Rattle.stepping.proofs.table_line.Goals.{After-directory-1, After-table_line_bad, Else-table_line_bad}
-
--- a directory has four places
-four : (c : After-directory-1) → let h = c.args.reader.directory in (length h.types ≡ most_tables) × (length h.rows ≡ most_tables)
-four c = (search rules, search rules)
+use Rattle.stepping.proofs.table_line.Goals.{After-table_line_bad, Else-table_line_bad}
 
 -- the test's result is the definition's
 test : (c : After-table_line_bad) →
@@ -27,7 +23,7 @@ test : (c : After-table_line_bad) →
 test c l d =
     let a = c.args in
     let h = a.reader.directory in
-    let w = four c.before.before in
+    let w : length h.types ≡ most_tables = search rules in
     ap (λ (u : List ℕ). table_line_bad u a.kind a.rows) (kinds_first h.types h.rows l d h.count (omega arith)) ∙ sym c.table_line_bad.ensures
 
 -- a table that is let pass is not the fifth
@@ -35,7 +31,7 @@ room : (c : Else-table_line_bad) → c.args.reader.directory.count < most_tables
 room c =
     let a = c.args in
     let h = a.reader.directory in
-    let w = four c.before.before.before in
+    let w : length h.types ≡ most_tables = search rules in
     omega (arith, (table_line_good (take h.count h.types) a.kind a.rows (sym c.table_line_bad.ensures ∙ c.if-table_line_bad.false)).few, length-take-le h.count h.types (omega arith))
 
 pub returns-then-table_line_bad : goal.returns-then-table_line_bad
@@ -47,6 +43,7 @@ pub returns : goal.returns
 returns c = λ l d f.
     let a = c.args in
     let h = a.reader.directory in
-    let w = four (goal.at.returns c).After-directory-1 in
+    let w : length h.types ≡ most_tables = search rules in
+    let v : length h.rows ≡ most_tables = search rules in
     let r = room (goal.at.returns c).Else-table_line_bad in
     table_taken (state_in a.reader l d f) a.kind a.rows _ (test (goal.at.returns c).After-table_line_bad l d ∙ c.if-table_line_bad.false) (table_more h.types h.rows l d h.count a.kind (omega arith) (omega arith))

@@ -1,18 +1,18 @@
--- `tape::tape_allowance` meets its contract: at each `return` the tests that led there give the formula's answer, which is the list's.
+-- `tape::tape_allowance` meets its contract: on both sides of the test its result is the formula's answer, which is the list's.
+use Prim.Native.Nat.{◌*◌}
+use mathlib.Core.Path.{sym, ◌∙◌}
 use native.Mathlib.Omega.{arith}
-use Rattle.base.proofs.Tests.{decide}
+use Rattle.base.specs.Limits.{highest_level, tenths}
+use Rattle.base.proofs.Numbers.{inside}
 use Rattle.dip.specs.Formula.{formula_answer}
 use Rattle.dip.proofs.Formula.{formula_figure, formula_right}
 use Rattle.tape.proofs.tape_allowance.Goals as goal
 
-pub returns-then-level-lt-TENTHS : goal.returns-then-level-lt-TENTHS
+pub returns-then-is_off_tape : goal.returns-then-is_off_tape
 unfolding formula_answer
-returns-then-level-lt-TENTHS c = formula_right (search decide)
-
-pub returns-then-level-gt-HIGHEST : goal.returns-then-level-gt-HIGHEST
-unfolding formula_answer
-returns-then-level-gt-HIGHEST c = formula_right (search decide)
+returns-then-is_off_tape c = formula_right (rw (sym c.is_off_tape.ensures ∙ c.if-is_off_tape.true))
 
 pub returns : goal.returns
 returns c =
-    formula_right (formula_figure c.args.level c.if-level-lt-TENTHS.false c.if-level-gt-HIGHEST.false (omega (arith, c.if-level-lt-TENTHS.false)))
+    let on = inside tenths (tenths * highest_level) c.args.level (sym c.is_off_tape.ensures ∙ c.if-is_off_tape.false) in
+    formula_right (formula_figure c.args.level on.0 on.1 (omega (arith, on.0)))

@@ -17,14 +17,14 @@ loop-i-init c = record { few = omega arith; room = room_none; four = refl; is = 
 
 pub loop-i-preserved : goal.loop-i-preserved
 loop-i-preserved c =
-    let g = c.args.grades.now in
-    let x = c.args.grosses.now in
-    let y = c.args.nets.now in
+    let g = c.args.cars.now.grades in
+    let x = c.args.cars.now.grosses in
+    let y = c.args.cars.now.nets in
     let i = c.loop-i.i in
     let all = c.loop-i.all in
     let gs = c.loop-i.of_grades in
     let m = c.loop-i.invariant in
-    let h : i + 1 ≤ c.args.n = omega (arith, c.loop-i-test.true) in
+    let h : i + 1 ≤ c.args.cars.now.held = omega (arith, c.loop-i-test.true) in
     let grade = get_or g i 0 in
     let gross = get_or x i 0 in
     let net = get_or y i 0 in
@@ -32,7 +32,7 @@ loop-i-preserved c =
       | then-grade-ne0+then-place-lt-GRADES w ↦
           let k = w.place_of-place.result in
           rw (w.all-is, w.of_grades-is)
-          (passed c.args.n g x y all gs i m h w.with_car-all.result (set gs k w.with_car.result)
+          (passed c.args.cars.now.held g x y all gs i m h w.with_car-all.result (set gs k w.with_car.result)
           (record { all = w.with_car-all.ensures.1 i m.room.all; grade = small-set gs k w.with_car.result (w.with_car.ensures.1 i (m.room.grade k)) m.room.grade })
           (length-set gs k w.with_car.result ∙ m.four)
           (λ number.
@@ -41,8 +41,8 @@ loop-i-preserved c =
           ∙ grade_more all gs number grade gross net w.if-grade-ne0.true k w.place_of-place.ensures (omega (arith, w.if-place-lt-GRADES.true, m.four))))
       | then-grade-ne0+else-place-lt-GRADES w ↦
           rw (w.all-is, w.of_grades-is)
-          (passed c.args.n g x y all gs i m h w.with_car-all.result gs (record { all = w.with_car-all.ensures.1 i m.room.all; grade = λ k. small_next (m.room.grade k) }) m.four
+          (passed c.args.cars.now.held g x y all gs i m h w.with_car-all.result gs (record { all = w.with_car-all.ensures.1 i m.room.all; grade = λ k. small_next (m.room.grade k) }) m.four
           (λ number. ap (λ (z : Totals). sums_from z gs) w.with_car-all.ensures.0 ∙ all_more all gs number grade gross net w.if-grade-ne0.true (omega (arith, w.place_of-place.ensures, w.if-place-lt-GRADES.false, m.four))))
       | else-grade-ne0 w ↦
-          rw (w.all-is, w.of_grades-is) (passed c.args.n g x y all gs i m h all gs (room_next m.room) m.four (λ number. none_more all gs number grade gross net w.if-grade-ne0.false))
+          rw (w.all-is, w.of_grades-is) (passed c.args.cars.now.held g x y all gs i m h all gs (room_next m.room) m.four (λ number. none_more all gs number grade gross net w.if-grade-ne0.false))
     ]

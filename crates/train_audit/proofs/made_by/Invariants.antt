@@ -1,10 +1,6 @@
 -- `train_audit::made_by` meets its contract: the sums so far are those of the cars that were passed.
-use Prim.Native.Nat.{◌-◌}
 use Rattle.train_audit.proofs.Made.{Made}
 use Rattle.train_audit.proofs.made_by.Given as goal
 
 abbrev pub invariant-loop-i : goal.invariant-loop-i
-invariant-loop-i l = Made l.n l.grades l.grosses l.nets l.all l.of_grades l.i
-
-abbrev pub decreases-loop-i : goal.decreases-loop-i
-decreases-loop-i l = l.n - l.i
+invariant-loop-i l = Made l.cars.held l.cars.grades l.cars.grosses l.cars.nets l.all l.of_grades l.i

@@ -8,10 +8,8 @@ use Rattle.train_audit.proofs.repeats.Goals as goal
 
 pub returns-then-holds : goal.returns-then-holds
 returns-then-holds c =
-    let n : length c.args.numbers.now ≡ most_cars = c.requires.1 in
-    twice_hit c.args.numbers.now c.loop-i.i (omega (arith, c.requires.0, c.loop-i-test.true)) c.args.n c.loop-i-test.true (sym c.holds.ensures ∙ c.if-holds.true)
+    twice_hit c.args.numbers.now c.loop-i.i (omega (arith, c.requires, c.loop-i-test.true)) c.args.n c.loop-i-test.true (sym c.holds.ensures ∙ c.if-holds.true)
 
 pub loop-i-preserved : goal.loop-i-preserved
 loop-i-preserved c =
-    let n : length c.args.numbers.now ≡ most_cars = c.requires.1 in
-    (omega arith, twice_miss c.args.numbers.now c.loop-i.i (omega (arith, c.requires.0, c.loop-i-test.true)) (sym c.holds.ensures ∙ c.if-holds.false) c.loop-i.invariant.1)
+    twice_miss c.args.numbers.now c.loop-i.i (omega (arith, c.requires, c.loop-i-test.true)) (sym c.holds.ensures ∙ c.if-holds.false) c.loop-i.invariant

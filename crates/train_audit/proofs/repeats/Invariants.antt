@@ -1,5 +1,4 @@
 -- `train_audit::repeats` meets its contract: of the numbers that were passed none stands twice.
-use Prim.Native.Nat.{◌-◌, ◌≤◌}
 use mathlib.Core.Path.{◌≡◌}
 use mathlib.Core.Bool.{false}
 use lib.ListN.{take}
@@ -7,7 +6,4 @@ use Rattle.consist.specs.Train.{twice}
 use Rattle.train_audit.proofs.repeats.Given as goal
 
 abbrev pub invariant-loop-i : goal.invariant-loop-i
-invariant-loop-i l = (l.i ≤ l.n) × (twice (take l.i l.numbers) ≡ false)
-
-abbrev pub decreases-loop-i : goal.decreases-loop-i
-decreases-loop-i l = l.n - l.i
+invariant-loop-i l = twice (take l.i l.numbers) ≡ false

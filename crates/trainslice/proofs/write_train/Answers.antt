@@ -8,21 +8,21 @@ use Rattle.base.specs.Limits.{grade_count}
 use Rattle.base.specs.Buffer.{put}
 use Rattle.base.proofs.Lists.{length_under}
 use Rattle.consist.specs.Inner.{Sixty}
-use Rattle.train.specs.Told.{train_told}
+use Rattle.consist.specs.Lent.{tallied}
 use Rattle.trainslice.specs.Layout.{sums_places, train_of}
 use Rattle.trainslice.proofs.Slice.{train_written, train_again}
 use Rattle.trainslice.proofs.write_train.Goals as goal
 use Rattle.trainslice.proofs.write_train.Goals.{Start}
 
-sixty : (s : Start) → Sixty (train_told s.args.train)
+sixty : (s : Start) → Sixty (tallied s.args.sums s.args.cars.now)
 sixty s = record { numbers = search rules; grades = search rules; grosses = search rules; nets = search rules }
 
-four : (s : Start) → length s.args.train.sums.grades ≡ grade_count
+four : (s : Start) → length s.args.sums.grades ≡ grade_count
 four s = search (rules, length_under)
 
 pub returns : goal.returns
 returns c =
-    let t = train_told c.args.train in
+    let t = tallied c.args.sums c.args.cars.now in
     let written =
     c.copy_at-4.ensures
     ∙ ap (λ (l : List ℕ). put l 206 t.nets) c.copy_at-3.ensures

@@ -1,15 +1,18 @@
 -- `sheet::rows::take_rows` meets its contract: from the start to the place reached the reading only went on.
 use Prim.Native.Nat.{◌-◌}
+use native.Mathlib.Omega.{arith}
 use Rattle.sheet.proofs.Taken.{taken_more}
 use Rattle.sheet.proofs.rows.take_rows.Goals as goal
 
-pub loop-owed-preserved : goal.loop-owed-preserved
-loop-owed-preserved c =
+pub loop-left-preserved : goal.loop-left-preserved
+loop-left-preserved c =
     let a = c.args in
-    let i = c.loop-owed.invariant in
-    let p = c.next_row-p.result in
-    let q = c.next_row-p.ensures c.if-p.true in (
-      i.0,
-      taken_more a.s.now a.reader a.levels.now a.capacities.now (a.reader.directory.count - 1) c.loop-owed.levels c.loop-owed.capacities c.loop-owed.rows c.loop-owed.level c.loop-owed.capacity c.loop-owed.at c.loop-owed.line c.loop-owed.owed
-          c.store_row.new.levels c.store_row.new.capacities p.first p.second i.1 c.loop-owed-test.true q.0 q.1 c.store_row.ensures,
+    let o = c.loop-left in
+    let row = c.in-Some in
+    let q = c.next_row.ensures row.next_level row.next_capacity row.is in (
+      omega arith,
+      o.invariant.1,
+      rw o.invariant.0
+          (taken_more a.s.now a.reader a.levels.now a.capacities.now (a.reader.directory.count - 1) o.levels o.capacities o.rows o.level o.capacity o.at o.line o.owed
+          c.store_row.new.levels c.store_row.new.capacities row.next_level row.next_capacity o.invariant.2 (omega arith) q.0 q.1 c.store_row.ensures),
     )

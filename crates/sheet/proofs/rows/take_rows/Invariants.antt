@@ -5,8 +5,5 @@ use Rattle.base.specs.Limits.{most_rows}
 use Rattle.sheet.proofs.Taken.{Taken}
 use Rattle.sheet.proofs.rows.take_rows.Given as goal
 
-abbrev pub invariant-loop-owed : goal.invariant-loop-owed
-invariant-loop-owed l = (l.first ≡ most_rows * l.k) × Taken l.s l.reader l.initial.levels l.initial.capacities l.k l.levels l.capacities l.rows l.level l.capacity l.at l.line l.owed
-
-abbrev pub decreases-loop-owed : goal.decreases-loop-owed
-decreases-loop-owed l = l.owed
+abbrev pub invariant-loop-left : goal.invariant-loop-left
+invariant-loop-left l = (l.left ≡ l.owed) × (l.first ≡ most_rows * l.k) × Taken l.s l.reader l.initial.levels l.initial.capacities l.k l.levels l.capacities l.rows l.level l.capacity l.at l.line l.owed

@@ -10,7 +10,7 @@ pub overflow_cast-result : goal.overflow_cast-result
 unfolding density_at
 overflow_cast-result c =
     let e : c.round_half_up.result ≡ Steps.density_at c.args.oil.density.0 c.args.d = cc in
-    omega (arith, density_most c.requires.0.range c.requires.1)
+    omega (arith, density_most c.args.oil.in_range c.requires)
 
 pub returns : goal.returns
 unfolding density_at

@@ -3,7 +3,7 @@ use mathlib.Core.Path.{◌≡◌}
 use mathlib.Core.List.{List}
 use Rattle.base.specs.Answer.{Answer}
 use Rattle.table.specs.Table.{Table}
-use Rattle.table.specs.Layout.{tables_of}
+use Rattle.table.specs.Layout.{tables_in}
 use Rattle.table.specs.TablesCard.{TablesRight}
 use Rattle.table.proofs.TablesCard.{tables_right}
 use Rattle.car.specs.declared.Car.{Car}
@@ -30,4 +30,4 @@ whole ts c a e =
 
 pub returns : goal.returns
 returns c =
-    whole ((tables_of c.args.d c.args.levels.now c.args.capacities.now)) c.args.car (car_told c.work_alone.result) c.work_alone.ensures
+    whole (tables_in c.args.tables.now) c.args.car (car_told c.work_handed_in.result) (c.work_handed_in.ensures (dipped c.args.car) c.dipped.ensures.stands)
