@@ -23,19 +23,22 @@ pub fn rows_around(tables: &Tables<'_>, kind: u32, level: u64) -> Result<Neighbo
     let reach = least_mm(level);
     let types = tables.types;
     let rows = tables.rows;
-    for k in 0..tables.count as usize {
+    let mut found = Err(Refusal::UnknownType);
+    'tables: for k in 0..tables.count as usize {
         if types[k] == kind {
             let start = MOST_ROWS * k;
             let last = start + rows[k] as usize - 1;
             for low in skip_rows(tables.levels, start, last, reach)..last {
                 if reach <= u64::from(tables.levels[low + 1]) {
-                    return Ok(neighbours(tables, low));
+                    found = Ok(neighbours(tables, low));
+                    break 'tables;
                 }
             }
-            return Err(Refusal::Level);
+            found = Err(Refusal::Level);
+            break 'tables;
         }
     }
-    Err(Refusal::UnknownType)
+    found
 }
 
 // R of 100 times the capacity at a level, in 0.01 dm³, on the table of a type, or 12 or 16.

@@ -62,6 +62,13 @@ fn load_of(grade: u32, answer: Result<Figures, Refusal>) -> Load
     }
 }
 
+// The grade by which a car is held, dipped or a probe's.
+fn grade_of(car: HandedIn) -> u32
+    ensures { result ≡ car.measured.grade }
+{
+    car.measured.grade
+}
+
 // Holds a car of this number in the first free place: grade and masses beside it where it was accepted, else zeros.
 fn hold(cars: &mut HeldCars, number: u32, grade: u32, answer: Result<Figures, Refusal>)
     requires { cars.old.held < most_cars }
@@ -92,6 +99,6 @@ pub fn enter_on(
 {
     check_place(cars, car.number)?;
     let answer = working::work_on(tables, car, expansion);
-    hold(cars, car.number, car.measured.grade, answer);
+    hold(cars, car.number, grade_of(car), answer);
     answer
 }

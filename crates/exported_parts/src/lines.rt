@@ -24,7 +24,7 @@ pub extern "C" fn rack_read_line(text: &[u8], letter: &mut u8, numbers: &mut [u3
     }
     match lettering::read_line(text) {
         Ok(line) => {
-            *letter = u8::from(line.letter);
+            *letter = scanning::byte_of(line.letter);
             numbers.copy_from_slice(&line.numbers);
             0
         }

@@ -10,7 +10,7 @@ ghost use Rattle.line.specs.RoundTrip.{WrittenReadsBack};
 use base::{LARGEST, Refusal};
 use field::COLUMNS;
 use reading::Line;
-use scanning::count_of;
+use scanning::{byte_of, count_of};
 
 // No number exceeds 99,999,999.
 fn small(numbers: &[u32]) -> bool
@@ -25,7 +25,7 @@ fn put_line(out: &mut [u8], at: usize, line: Line)
     ensures { out.new ≡ put out.old at (line_of line) }
 {
     let count = count_of(line.letter);
-    out[at] = u8::from(line.letter);
+    out[at] = byte_of(line.letter);
     for j in 0..count {
         field::write_field(out, at + 1 + COLUMNS * j, line.numbers[j]);
     }

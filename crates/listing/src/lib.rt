@@ -73,6 +73,7 @@ fn list_line(
 fn write_listing(
     out: &mut [u8],
     tables: &Tables<'_>,
+    expansions: &Expansions,
     fields: &[u32; HISTORY_NUMBERS],
     lines: usize,
 ) -> usize
@@ -80,11 +81,10 @@ fn write_listing(
     ensures { (result ≡ length (text_of (lines_from empty_train (items_of (tables_in tables.now) (history_of fields.now lines)))))
         × (out.new ≡ put out.old 0 (text_of (lines_from empty_train (items_of (tables_in tables.now) (history_of fields.now lines))))) }
 {
-    let expansions = Expansions::new();
     let mut cars = Train::empty().cars;
     let mut at: usize = 0;
     for i in 0..lines {
-        let line = list_line(&mut cars, tables, &expansions, fields, i);
+        let line = list_line(&mut cars, tables, expansions, fields, i);
         at = printing::append_line(out, at, line);
     }
     let sums = train_audit::made_by(&cars);
@@ -109,7 +109,7 @@ pub fn answer_sheet(text: &[u8], out: &mut [u8]) -> Reply
     let mut fields = [0u32; HISTORY_NUMBERS];
     let head = sheet::read_sheet(text, &mut levels, &mut capacities, &mut fields);
     if let Err(why) = head.outcome {
-        let length = printing::write_refused(out, why.line, why.refusal);
+        let length = printing::write_refused(out, why.line, why.refusal.number());
         return Reply {
             length,
             refusal: Some(why.refusal),
@@ -123,7 +123,8 @@ pub fn answer_sheet(text: &[u8], out: &mut [u8]) -> Reply
         levels: &levels,
         capacities: &capacities,
     };
-    let length = write_listing(out, &tables, &fields, head.cars + head.struck);
+    let expansions = Expansions::new();
+    let length = write_listing(out, &tables, &expansions, &fields, head.cars + head.struck);
     Reply {
         length,
         refusal: None,

@@ -1,10 +1,10 @@
 -- The answer on the permitted error of a car, dipped or probed, from the car's own answer.
 use Prim.Native.Nat.{ℕ}
-use mathlib.Core.Path.{◌≡◌, refl, ap}
+use mathlib.Core.Path.{◌≡◌, refl, sym, ap}
 use mathlib.Core.List.{List, []}
 use lib.ListN.{get_or}
 use Rattle.std.specs.Prelude.{Ok}
-use Rattle.base.specs.Answer.{Answer, refuses, first, figures, refusal}
+use Rattle.base.specs.Answer.{Verdict, Answer, refuses, first, figures, refusal}
 use Rattle.base.proofs.Answer.{answer_figures, answer_refusal}
 use Rattle.table.specs.Table.{Table}
 use Rattle.car.specs.declared.Figures.{Figures}
@@ -15,7 +15,7 @@ use Rattle.car.specs.Inner.{Passed}
 use Rattle.car.proofs.Accepted.{passed_alone}
 use Rattle.consist.specs.Demand3.{Close, InOrder}
 use Rattle.accuracy.specs.declared.Errors.{Errors}
-use Rattle.accuracy.specs.Permitted.{PermittedAnswer, OnlyAnswer}
+use Rattle.accuracy.specs.Permitted.{permitted_tests, PermittedAnswer, OnlyAnswer}
 use Rattle.accuracy.specs.Shown.{ShownRight}
 use Rattle.accuracy.proofs.Answers.{turned_away_lem, only_answer}
 use Rattle.accuracy.proofs.Parts.{car_away}
@@ -45,6 +45,20 @@ module _ {Card : Type 0} (card : Card) (ts : List Table) (h : Intake) (errors : 
   away {n} e =
       let v : first (alone_tests ts h) ≡ refuses n = answer_refusal (first (alone_tests ts h)) (figures_of ts h) e in
       whole (refusal n) (turned_away_lem (car_away ts h errors v))
+
+-- a verdict behind an answer that comes before it: a refusal stands in its place
+abbrev pub verdict_behind : Answer → Verdict → Verdict
+verdict_behind (refusal n) v = refuses n
+verdict_behind (figures vs) v = v
+
+-- the car's refusal comes before 24 and 25, as an equation by which the check finds an early return
+pub car_first : (ts : List Table) (h : Intake) (errors : Errors) → first (permitted_tests ts h errors) ≡ verdict_behind (alone_answer ts h) (first (permitted_tests ts h errors))
+unfolding alone_answer
+car_first ts h errors = go (alone_answer ts h) refl
+  where
+    go : (a : Answer) → alone_answer ts h ≡ a → first (permitted_tests ts h errors) ≡ verdict_behind a (first (permitted_tests ts h errors))
+    go (figures vs) e = refl
+    go (refusal n) e = car_away ts h errors (answer_refusal (first (alone_tests ts h)) (figures_of ts h) (sym e))
 
 -- the car is accepted, and m is measured of it
 module _ (ts : List Table) (h : Intake) {six : Figures} (e : car_told (Ok six) ≡ alone_answer ts h) where

@@ -71,6 +71,7 @@ fn limit_beside(
 
 // The refusals of the car alone, 24 and 25; or its six figures, the limit of the permitted error of its gross mass, in 0.0001 %, and
 // whether that is within what is allowed.
+#[tactic(auto, using(crate::proofs::Answered::car_first, accuracy::proofs::AgainstCard::permitted_right))]
 pub fn permitted_error(tables: &Tables<'_>, car: Car, errors: Errors) -> Result<Permitted, Refusal>
     ensures { OnlyAnswer (tables_in tables.now) (dipped car) errors (permitted_told result)
         × ShownRight (tables_in tables.now) (dipped car) errors (permitted_told result)

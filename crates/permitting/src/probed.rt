@@ -12,6 +12,7 @@ use car::ProbeCar;
 use table::Tables;
 
 // 31 and 32 of its set, the refusals of the car alone, 24 and 25; or what `permitted_error` gives of a dipped car.
+#[tactic(auto, using(crate::proofs::Answered::car_first, train::proofs::ProbeSet::set_first, probe_spec::proofs::Answers::set_verdict, accuracy::proofs::AgainstProbedCard::probed_permitted_right))]
 pub fn permitted_error_probe(
     tables: &Tables<'_>,
     car: ProbeCar,

@@ -4,7 +4,7 @@
 ghost use Rattle.std.specs.Prelude.{◌≡◌, true, [], ◌∷◌, ◌++◌, ◌+◌, ◌-◌, ◌≤◌, length, replicate};
 ghost use Rattle.base.specs.Buffer.{put};
 ghost use Rattle.base.specs.Limits.{largest};
-ghost use Rattle.base.specs.Refusal.{figure_told, refusal_number};
+ghost use Rattle.base.specs.Refusal.{figure_told};
 ghost use Rattle.reading.specs.Letter.{width_of, most_fields};
 ghost use Rattle.line.specs.Writing.{line_of, writable};
 ghost use Rattle.car.specs.Car.{car_told};
@@ -94,11 +94,11 @@ pub fn write_totals(out: &mut [u8], at: usize, sums: Sums) -> usize
     place
 }
 
-// Writes the Z line: the line number and the refusal.
-pub fn write_refused(out: &mut [u8], line: u32, refusal: Refusal) -> usize
-    requires { (least_buffer ≤ length out.old) × (line ≤ largest) × (refusal_number refusal ≤ largest) }
-    ensures { (result ≡ length (text_of (sheet_refused_line line (refusal_number refusal) ∷ []))) × (out.new ≡ put out.old 0 (text_of (sheet_refused_line line (refusal_number refusal) ∷ []))) }
+// Writes the Z line: the line number and the refusal's.
+pub fn write_refused(out: &mut [u8], line: u32, number: u32) -> usize
+    requires { (least_buffer ≤ length out.old) × (line ≤ largest) × (number ≤ largest) }
+    ensures { (result ≡ length (text_of (sheet_refused_line line number ∷ []))) × (out.new ≡ put out.old 0 (text_of (sheet_refused_line line number ∷ []))) }
 {
-    let text = line_with(Letter::SheetRefused, &[line, refusal.number()]);
+    let text = line_with(Letter::SheetRefused, &[line, number]);
     append_line(out, 0, text)
 }

@@ -76,7 +76,7 @@ module _ (s : ProbeSet) where
 
 -- What a set's answer was made of.
 
-set_verdict : (s : ProbeSet) → set_answer s ≡ answer (first (set_tests s)) (values s)
+pub set_verdict : (s : ProbeSet) → set_answer s ≡ answer (first (set_tests s)) (values s)
 unfolding set_answer
 set_verdict s = refl
 

@@ -1,6 +1,4 @@
 // The letters of a sheet and of an answer, and a line's value.
-ghost use Rattle.std.specs.Prelude.{◌≡◌};
-ghost use Rattle.reading.specs.Letter.{byte_of};
 
 // T, R, C, K, E of a sheet; A, X, S, G, Z of an answer, which has K lines too: each by its byte.
 #[derive(Clone, Copy)]
@@ -15,14 +13,6 @@ pub enum Letter {
     Totals = b'S' as isize,
     GradeTotals = b'G' as isize,
     SheetRefused = b'Z' as isize,
-}
-
-impl From<Letter> for u8 {
-    ghost from_gives = { λ letter byte. byte ≡ byte_of letter };
-
-    fn from(letter: Letter) -> u8 {
-        letter as u8
-    }
 }
 
 // The most fields that a letter has: a line's value has as many places.

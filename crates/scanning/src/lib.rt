@@ -11,11 +11,11 @@ use base::Refusal;
 use field::COLUMNS;
 use reading::{Due, Letter, Line, MOST_FIELDS};
 
-mod widths; // widths.rt: the lengths of the letters' lines
+mod widths; // widths.rt: the letters' bytes, and the lengths of their lines
 
 pub use widths::{
     CAR_ACCEPTED_BYTES, CAR_BYTES, CAR_REFUSED_BYTES, END_BYTES, GRADE_TOTALS_BYTES, ROW_BYTES,
-    SHEET_REFUSED_BYTES, STRIKE_BYTES, TABLE_BYTES, TOTALS_BYTES, count_of,
+    SHEET_REFUSED_BYTES, STRIKE_BYTES, TABLE_BYTES, TOTALS_BYTES, byte_of, count_of,
 };
 
 // The letter of a sheet whose byte is b, if it may come next.
@@ -78,29 +78,21 @@ fn find_line_at(s: &[u8], at: usize, due: Due) -> Result<Line, Refusal>
     }
 }
 
-// The line that starts at `at`, if it is as it should be: taken at its fixed length, with no search for its line feed.
-fn quick_line_at(s: &[u8], at: usize, due: Due) -> Option<Line>
-    ensures { (line : Line) → result ≡ Some line → line_at s.now at due ≡ Ok line }
-{
-    if s.len() <= at {
-        return None;
-    }
-    let letter = letter_of(s[at], due)?;
-    let count = count_of(letter);
-    let feed = 1 + COLUMNS * count;
-    if s.len() - at <= feed || s[at + feed] != b'\n' {
-        return None;
-    }
-    let numbers = numbers_at(s, at + 1, count)?;
-    Some(Line { letter, numbers })
-}
-
-// The line that starts at `at`, of which the letter must be due.
+// The line that starts at `at`, of which the letter must be due. A line that is as it should be is taken at its fixed length, with no
+// search for its line feed; it is handed back from here, since a line that is an Option of its own was copied once more.
 pub fn read_line_at(s: &[u8], at: usize, due: Due) -> Result<Line, Refusal>
     ensures { result ≡ line_at s.now at due }
 {
-    match quick_line_at(s, at, due) {
-        Some(line) => Ok(line),
-        None => find_line_at(s, at, due),
+    if at < s.len() {
+        if let Some(letter) = letter_of(s[at], due) {
+            let count = count_of(letter);
+            let feed = 1 + COLUMNS * count;
+            if feed < s.len() - at && s[at + feed] == b'\n' {
+                if let Some(numbers) = numbers_at(s, at + 1, count) {
+                    return Ok(Line { letter, numbers });
+                }
+            }
+        }
     }
+    find_line_at(s, at, due)
 }

@@ -1,6 +1,6 @@
-// The lengths of the letters' lines.
+// The letters' bytes, and the lengths of their lines.
 ghost use Rattle.std.specs.Prelude.{◌≡◌, ◌≤◌};
-ghost use Rattle.reading.specs.Letter.{count_of, most_fields};
+ghost use Rattle.reading.specs.Letter.{byte_of, count_of, most_fields};
 
 use field::COLUMNS;
 use reading::Letter;
@@ -46,6 +46,13 @@ pub const TOTALS_BYTES: usize = 2 + COLUMNS * TOTALS_FIELDS;
 pub const GRADE_TOTALS_BYTES: usize = 2 + COLUMNS * GRADE_TOTALS_FIELDS;
 
 pub const SHEET_REFUSED_BYTES: usize = 2 + COLUMNS * SHEET_REFUSED_FIELDS;
+
+// The byte of a letter.
+pub fn byte_of(letter: Letter) -> u8
+    ensures { result ≡ byte_of letter }
+{
+    letter as u8
+}
 
 // How many fields a line of the letter has.
 pub fn count_of(letter: Letter) -> usize

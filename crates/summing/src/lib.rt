@@ -23,11 +23,11 @@ pub struct Sums {
     pub grades: [Totals; GRADES],
 }
 
-// Whether four numbers make a sum. They are added in 128 bits, so that none of any size overflows.
+// Whether four numbers make a sum. They are taken from it one after another, so that none of any size overflows.
 fn is_sum(sum: u64, a: u64, b: u64, c: u64, d: u64) -> bool
     ensures { result ≡ eqb sum (a + (b + (c + (d + 0)))) }
 {
-    u128::from(a) + u128::from(b) + u128::from(c) + u128::from(d) == u128::from(sum)
+    a <= sum && b <= sum - a && c <= sum - a - b && d == sum - a - b - c
 }
 
 impl Totals {

@@ -20,3 +20,6 @@ module _ (ts : List Table) (t : Train) (h : Intake) {a : Answer} {next : Train} 
 
   pub entered_continues : Continues t (book.car ts h) a next
   entered_continues = rw (p, q) (continues t (book.car ts h))
+
+  pub kept : Close ts (measured_of h) a × InOrder ts (measured_of h) a × Continues t (book.car ts h) a next
+  kept = (entered_close, entered_in_order, entered_continues)

@@ -1,2 +1,3 @@
 pub mod Entered
+pub mod ProbeSet
 pub mod Summed

@@ -15,6 +15,7 @@ use car::{Figures, ProbeCar};
 use table::Tables;
 
 // A probe's car: 31 and 32 of its set, 7 and 8 of its tables, 10, then the first of 12, 13 and 16 to 21, or its figures.
+#[tactic(auto, using(crate::proofs::ProbeSet::set_first, car::proofs::ProbedCard::probed_right, consist::proofs::AgainstProbes::probe_beside))]
 pub fn work_out_probe(tables: &Tables<'_>, car: ProbeCar) -> Result<Figures, Refusal>
     ensures { (car_told result ≡ alone_answer (tables_in tables.now) (probed car))
         × Close (tables_in tables.now) (probed_measured car) (car_told result)

@@ -4,7 +4,7 @@ ghost use Rattle.base.specs.Limits.{most_cars};
 ghost use Rattle.base.specs.Answer.{first};
 ghost use Rattle.base.specs.Refusal.{verdict_told, figure_told};
 ghost use Rattle.table.specs.Layout.{tables_in};
-ghost use Rattle.car.specs.Car.{measured, Intake, dipped, car_told};
+ghost use Rattle.car.specs.Car.{measured, measured_of, Intake, dipped, car_told};
 ghost use Rattle.car.specs.Inner.{Stands};
 ghost use Rattle.consist.specs.Train.{empty_train, enter_answer, enter_train, strike_answer, strike_train};
 ghost use Rattle.consist.specs.Book.{Item};
@@ -44,6 +44,10 @@ pub fn enter_handed_in(
 ) -> Result<Figures, Refusal>
     ensures answered { (h : Intake) → Stands car h → car_told result ≡ enter_answer (tables_in tables.now) (train_told train.old) h }
     ensures entered { (h : Intake) → Stands car h → train_told train.new ≡ enter_train (tables_in tables.now) (train_told train.old) h }
+    ensures kept { (h : Intake) → Stands car h →
+        Close (tables_in tables.now) (measured_of h) (car_told result)
+        × InOrder (tables_in tables.now) (measured_of h) (car_told result)
+        × Continues (train_told train.old) (carItem (tables_in tables.now) h) (car_told result) (train_told train.new) }
 {
     check_bar(tables, train.sums, &train.cars)?;
     let expansion = thermal_stored::expansion(car.measured.density);

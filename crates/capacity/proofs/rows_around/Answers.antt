@@ -20,7 +20,7 @@ use Rattle.gauging.specs.Capacity.{Gap}
 use Rattle.gauging.specs.Inner.{Reaches, gap_at, gap_of, Between, gap_numbers, around_answer}
 use Rattle.gauging.proofs.Search.{found_after, none_reaches, row_passed, row_reaches, table_chosen, table_skipped, rows_skipped}
 use Rattle.capacity.proofs.rows_around.Goals as goal
-use Rattle.capacity.proofs.rows_around.Goals.{In-loop-k, In-loop-low, Start, Then-types-k}
+use Rattle.capacity.proofs.rows_around.Goals.{In-tables, In-loop-low, Start, Then-types-k}
 
 -- The function's arguments: row i, n rows from i on, table k, n tables from k on, the last row of table k, and the answers.
 
@@ -48,12 +48,12 @@ module _ (s : Start) where
 
 -- In a turn over the tables: the next one and those after it.
 
-module _ (c : In-loop-k) where
+module _ (c : In-tables) where
   abbrev start : Start
   start = c.before.before.before.before.before.before
 
   abbrev number : ℕ
-  number = c.loop-k.k
+  number = c.tables.k
 
   abbrev more : List Table
   more = tables start (number + 1) (start.args.tables.now.count - (number + 1))
@@ -64,11 +64,11 @@ module _ (c : In-loop-k) where
   left : answer_on start (tables start 0 start.args.tables.now.count) ≡ answer_on start (table start number ∷ more)
   left =
       let a = start.args in
-      c.loop-k.invariant
-      ∙ ap (answer_on start) (tables_step a.tables.now.types a.tables.now.rows a.tables.now.levels.now a.tables.now.capacities.now number a.tables.now.count c.loop-k-test.true)
+      c.tables.invariant.1
+      ∙ ap (answer_on start) (tables_step a.tables.now.types a.tables.now.rows a.tables.now.levels.now a.tables.now.capacities.now number a.tables.now.count c.tables-test.true)
 
   known : GoodTable start.args.tables.now.rows start.args.tables.now.levels.now start.args.tables.now.capacities.now number
-  known = good_table start.requires number c.loop-k-test.true
+  known = good_table start.requires number c.tables-test.true
 
 -- At the table that has the type: its first row and those after it.
 
@@ -97,7 +97,7 @@ module _ (c : Then-types-k) where
 -- In a turn over the rows: the row `low`, the next one and those after it.
 
 module _ (c : In-loop-low) where
-  abbrev turn : In-loop-k
+  abbrev turn : In-tables
   turn = c.before.before.before.before
 
   abbrev begun : Start
@@ -132,13 +132,13 @@ module _ (c : In-loop-low) where
       sym (chosen c.before.before.before ∙ found ∙ row_reaches (row begun low) begun.args.level (row begun (low + 1)) beyond h (rising_from_lem (row begun (low + 1)) beyond good.1))
 
 pub bounds-types-k : goal.bounds-types-k
-bounds-types-k c = omega (arith, good_table c.requires c.loop-k.k c.loop-k-test.true)
+bounds-types-k c = omega (arith, good_table c.requires c.tables.k c.tables-test.true)
 
 pub bounds-rows-k : goal.bounds-rows-k
-bounds-rows-k c = omega (arith, good_table c.requires c.loop-k.k c.loop-k-test.true)
+bounds-rows-k c = omega (arith, good_table c.requires c.tables.k c.tables-test.true)
 
 pub skip_rows-low-requires : goal.skip_rows-low-requires
-skip_rows-low-requires c = let g = good_table c.requires c.loop-k.k c.loop-k-test.true in (omega arith, omega arith)
+skip_rows-low-requires c = let g = good_table c.requires c.tables.k c.tables-test.true in (omega arith, omega arith)
 
 pub loop-low-init : goal.loop-low-init
 loop-low-init c =
@@ -148,9 +148,9 @@ loop-low-init c =
     let e = c.skip_rows-low.ensures in
     let a = c.args in
     let first_at : ℕ = at t.Then-types-k in
-    let passed : (first_at < low → in_tenths (get_or a.tables.now.levels.now low 0) < a.level) = λ h. omega (arith, e.below h, reaches t.In-loop-k) in
-    let s = rows_skipped a.tables.now.levels.now a.tables.now.capacities.now (last_of t.Start c.loop-k.k) a.level (low - first_at) first_at low (omega (arith, e.from)) e.to passed f.rest in (
-      omega (arith, known t.In-loop-k),
+    let passed : (first_at < low → in_tenths (get_or a.tables.now.levels.now low 0) < a.level) = λ h. omega (arith, e.below h, reaches t.In-tables) in
+    let s = rows_skipped a.tables.now.levels.now a.tables.now.capacities.now (last_of t.Start c.tables.k) a.level (low - first_at) first_at low (omega (arith, e.from)) e.to passed f.rest in (
+      omega (arith, known t.In-tables),
       ⊎_elim (λ (h : first_at < low). omega (arith, passed h)) (λ (h : low ≤ first_at). omega (arith, f.level-zero, ap (λ (i : ℕ). get_or a.tables.now.levels.now i 0) (le_antisymm h e.from))) (below first_at low),
       passed,
       s.good,
@@ -162,7 +162,7 @@ loop-low-preserved c =
     let t = goal.at.loop-low-preserved c in
     let l = t.In-loop-low in
     let next : Row = row t.Start (low l + 1) in
-    let passed : in_tenths next.level < c.args.level = omega (arith, c.if-reach-from.false, c.from.ensures, reaches t.In-loop-k) in (
+    let passed : in_tenths next.level < c.args.level = omega (arith, c.if-reach-from.false, c.from.ensures, reaches t.In-tables) in (
       c.loop-low.invariant.0,
       omega arith,
       λ h. passed,
@@ -170,16 +170,16 @@ loop-low-preserved c =
       found l ∙ row_passed (row t.Start (low l)) c.args.level next (beyond l) passed,
     )
 
-pub loop-k-preserved : goal.loop-k-preserved
-loop-k-preserved c =
-    let t = (goal.at.loop-k-preserved c).In-loop-k in
-    left t ∙ table_skipped (table (start t) (number t)) (more t) c.args.kind c.args.level c.if-types-k.false
+pub tables-preserved : goal.tables-preserved
+tables-preserved c =
+    let t = (goal.at.tables-preserved c).In-tables in
+    (c.tables.invariant.0, left t ∙ table_skipped (table (start t) (number t)) (more t) c.args.kind c.args.level c.if-types-k.false)
 
 pub returns-then-reach-from : goal.returns-then-reach-from
 returns-then-reach-from c =
     let t = goal.at.returns-then-reach-from c in
     let l = t.In-loop-low in
-    let h : c.args.level ≤ in_tenths (gap l).high.level = omega (arith, c.if-reach-from.true, c.from.ensures, reaches t.In-loop-k) in
+    let h : c.args.level ≤ in_tenths (gap l).high.level = omega (arith, c.if-reach-from.true, c.from.ensures, reaches t.In-tables) in
     let e : gap_of c.neighbours.result ≡ gap l = c.neighbours.ensures in
     record {
       told = ap (λ (g : Gap). figures (gap_numbers g)) e ∙ answers l h;
@@ -187,16 +187,16 @@ returns-then-reach-from c =
           subst (λ (g : Gap). Between g c.args.level) (sym e ∙ ap gap_of same) (between l h);
     }
 
-pub returns-then-types-k : goal.returns-then-types-k
-returns-then-types-k c =
-    let t = goal.at.returns-then-types-k c in
+pub returns-after-loop-low : goal.returns-after-loop-low
+returns-after-loop-low c =
+    let t = goal.at.returns-after-loop-low c in
     let s = t.Start in
     let at = c.loop-low.low in
     record {
       told = sym
           (chosen t.Then-types-k
           ∙ c.loop-low.invariant.4
-          ∙ ap (found_in s at) (rows_none s.args.tables.now.levels.now s.args.tables.now.capacities.now (at + 1) (none_left (last_of s c.loop-k.k) at c.loop-low-test.false))
-          ∙ none_reaches (row s at) s.args.level (c.loop-low.invariant.2 (omega (arith, known t.In-loop-k))));
+          ∙ ap (found_in s at) (rows_none s.args.tables.now.levels.now s.args.tables.now.capacities.now (at + 1) (none_left (last_of s c.tables.k) at c.loop-low-test.false))
+          ∙ none_reaches (row s at) s.args.level (c.loop-low.invariant.2 (omega (arith, known t.In-tables))));
       between = λ n k. never (cc);
     }

@@ -3,8 +3,10 @@
 use Prim.Native.Nat.{◌+◌, ◌-◌, ◌≤◌, ◌<◌}
 use mathlib.Core.Path.{◌≡◌}
 use lib.ListN.{get_or}
+use Rattle.std.specs.Prelude.{Err}
 use Rattle.base.specs.Answer.{first, accepts}
 use Rattle.base.specs.Limits.{in_tenths}
+use Rattle.base.specs.declared.refusal.Refusal.TheVariants.{UnknownType}
 use Rattle.table.specs.Table.{later_tests}
 use Rattle.table.specs.Layout.{places, rows_from, tables_from}
 use Rattle.table.proofs.Arrays.{row_at}
@@ -21,7 +23,8 @@ invariant-loop-low l =
     × (found_after (row_at l.tables.levels.now l.tables.capacities.now l.start) (rows_from l.tables.levels.now l.tables.capacities.now (l.start + 1) (l.last - l.start)) l.level
     ≡ found_after (row_at l.tables.levels.now l.tables.capacities.now l.low) (rows_from l.tables.levels.now l.tables.capacities.now (l.low + 1) (l.last - l.low)) l.level)
 
-abbrev pub invariant-loop-k : goal.invariant-loop-k
-invariant-loop-k l =
-    around_answer (tables_from l.tables.types l.tables.rows l.tables.levels.now l.tables.capacities.now 0 l.tables.count) l.kind l.level
-    ≡ around_answer (tables_from l.tables.types l.tables.rows l.tables.levels.now l.tables.capacities.now l.k (l.tables.count - l.k)) l.kind l.level
+abbrev pub invariant-tables : goal.invariant-tables
+invariant-tables l =
+    (l.found ≡ Err UnknownType)
+    × (around_answer (tables_from l.tables.types l.tables.rows l.tables.levels.now l.tables.capacities.now 0 l.tables.count) l.kind l.level
+    ≡ around_answer (tables_from l.tables.types l.tables.rows l.tables.levels.now l.tables.capacities.now l.k (l.tables.count - l.k)) l.kind l.level)

@@ -36,7 +36,7 @@ returns c =
     record {
       answered = λ h s. (taken_in ts t h s.none good c.requires.0 r (of_number t s c.in_ok-check_place.ensures) (c.work_on-answer.ensures h s)).0;
       entered = λ h s.
-          c.hold.ensures.held (rw s.measured (graded ts h r good (c.work_on-answer.ensures h s)))
-          ∙ rw (s.number, s.measured) (taken_in ts t h s.none good c.requires.0 r (of_number t s c.in_ok-check_place.ensures) (c.work_on-answer.ensures h s)).1;
+          c.hold.ensures.held (rw (c.grade_of.ensures, s.measured) (graded ts h r good (c.work_on-answer.ensures h s)))
+          ∙ rw (s.number, c.grade_of.ensures, s.measured) (taken_in ts t h s.none good c.requires.0 r (of_number t s c.in_ok-check_place.ensures) (c.work_on-answer.ensures h s)).1;
       few = c.hold.ensures.few;
     }

@@ -25,7 +25,7 @@ write_listing-length-requires c = record {
 pub returns-in-Err : goal.returns-in-Err
 returns-in-Err c =
     answered c.args.text.now c.args.out.now _ _ _ c.if-out-lt-LEAST_BUFFER.false
-    (refused_read c.args.text.now c.read_sheet-head.result c.read_sheet-head.new.levels c.read_sheet-head.new.capacities c.read_sheet-head.new.fields c.read_sheet-head.ensures.0 c.in-Err.is) c.write_refused-length.ensures.0 c.write_refused-length.ensures.1
+    (refused_read c.args.text.now c.read_sheet-head.result c.read_sheet-head.new.levels c.read_sheet-head.new.capacities c.read_sheet-head.new.fields c.read_sheet-head.ensures.0 c.in-Err.is) (rw c.number.ensures at c.write_refused-length.ensures.0) (rw c.number.ensures at c.write_refused-length.ensures.1)
 
 pub returns : goal.returns
 returns c =

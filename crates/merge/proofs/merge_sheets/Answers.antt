@@ -1,24 +1,22 @@
 -- `merge::merge_sheets` meets its contract: 1, the first sheet's own refusal, or what the second makes of it.
 use Prim.Native.Nat.{ℕ, ◌≤◌}
-use mathlib.Core.Path.{refl, ap, sym, subst}
+use mathlib.Core.Path.{refl, subst}
 use mathlib.Core.List.{List}
+use borrow.Author.Rules.{rules}
 use lib.ListN.{take}
 use Rattle.std.specs.Prelude.{Result, Ok, Err, IfOk}
-use Rattle.std.proofs.lemmas.Result.{err_from_is_err_and}
-use Rattle.grammar.specs.Sheet.{sheet_of}
 use Rattle.holding.specs.declared.LineRefusal.{LineRefusal}
 use Rattle.merge_spec.specs.Reply.{reply_of}
-use Rattle.merge_spec.specs.Merge.{Half, half_of, least_merge_buffer, Merges}
+use Rattle.merge_spec.specs.Merge.{least_merge_buffer, Merges}
 use Rattle.merge_spec.specs.Merged.{MadeOf, MergeLaws}
 use Rattle.merge_spec.specs.Examples.{MergeExamples}
-use Rattle.merge_spec.specs.Inner.{Merged, merged_of, reply_to, written_for}
 use Rattle.merge_spec.proofs.AgainstExamples.{merge_examples}
 use Rattle.merge_laws.specs.Pair.{PairExample}
 use Rattle.merge_laws.proofs.Made.{made, low}
 use Rattle.merge_laws.proofs.Laws.{merge_laws}
 use Rattle.merge_laws.proofs.AgainstPair.{pair_example}
 use Rattle.merge.specs.Inner.{merged_sheets, Gives}
-use Rattle.merge.proofs.Answers.{refused_read, too_short, answered}
+use Rattle.merge.proofs.Answers.{too_short, answered}
 use Rattle.merge.proofs.merge_sheets.Goals as goal
 
 -- all that is promised, by what is handed back and written
@@ -36,14 +34,9 @@ returns-then-out-lt-LEAST_MERGE_BUFFER c =
 pub returns-in_err-contents : goal.returns-in_err-contents
 returns-in_err-contents c =
     let a = c.args in
-    let r = c.read_sheet-contents in
-    let p = err_from_is_err_and c.from_residual.result c.from_residual.ensures.1 in
-    let q =
-    ap (λ (h : Half). merged_of h (half_of (sheet_of a.second.now)))
-    (ap half_of (refused_read a.first.now r.result r.new.levels r.new.capacities r.new.fields r.ensures.0 c.in_err-contents.was)) in
-    rw (p.1, p.2)
-    (promised a.first.now a.second.now a.out.now (Err c.in_err-contents.field-0.0) a.out.now
-    (answered a.first.now a.second.now a.out.now c.if-out-lt-LEAST_MERGE_BUFFER.false (sym (ap reply_to q), sym (ap (λ (x : Merged). written_for x a.out.now) q))))
+    let gives : Gives (merged_sheets a.first.now a.second.now) a.out.now (reply_of c.from_residual.result) a.out.now = search rules in
+    promised a.first.now a.second.now a.out.now c.from_residual.result a.out.now
+    (answered a.first.now a.second.now a.out.now c.if-out-lt-LEAST_MERGE_BUFFER.false gives)
 
 pub returns : goal.returns
 returns c =

@@ -22,5 +22,5 @@ loop-j-preserved c =
 pub returns : goal.returns
 returns c =
     let a = c.args in
-    write_end a.out.now a.at c.loop-j.j c.count_of-count.result c.from.result a.line c.loop-j.out c.from.ensures c.count_of-count.ensures.0
+    write_end a.out.now a.at c.loop-j.j c.count_of-count.result c.byte_of.result a.line c.loop-j.out c.byte_of.ensures c.count_of-count.ensures.0
     (omega arith) c.requires.0 (omega arith) c.loop-j-test.false c.loop-j.invariant

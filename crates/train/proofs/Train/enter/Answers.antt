@@ -1,9 +1,7 @@
 -- `Train::enter` meets its contract: 7, 8 and 9 first, then `enter_on`; with it distance, filling order and the book.
-use mathlib.Core.Path.{◌≡◌, refl, ◌∙◌}
+use mathlib.Core.Path.{◌≡◌}
 use mathlib.Core.List.{List}
-use borrow.Author.Rules.{rules}
-use Rattle.base.specs.Answer.{Answer, refusal}
-use Rattle.base.specs.Refusal.{refusal_number}
+use Rattle.base.specs.Answer.{Answer}
 use Rattle.table.specs.Table.{Table}
 use Rattle.table.specs.Layout.{tables_in}
 use Rattle.car.specs.Car.{Intake, dipped, measured_of, car_told}
@@ -11,10 +9,7 @@ use Rattle.consist.specs.Train.{Train, enter_answer, enter_train}
 use Rattle.consist.specs.Book as book
 use Rattle.consist.specs.Demand3.{Close, InOrder, Continues}
 use Rattle.consist.specs.HandedInExamples.{EnterOrder}
-use Rattle.consist.specs.Inner.{Sixty}
 use Rattle.consist.proofs.AgainstExamples.{enter_order}
-use Rattle.consist.proofs.Entering.{barred_away, barred_not}
-use Rattle.consist.proofs.Rows.{rows_sound, rows_entered}
 use Rattle.train.specs.Told.{train_told}
 use Rattle.train.proofs.Entered.{entered_close, entered_in_order, entered_continues}
 use Rattle.train.proofs.Train.enter.Goals as goal

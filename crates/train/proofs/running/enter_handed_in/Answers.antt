@@ -5,6 +5,7 @@ use Rattle.table.specs.Layout.{tables_in}
 use Rattle.consist.proofs.Entering.{barred_away, barred_not}
 use Rattle.consist.proofs.Rows.{rows_sound, rows_entered}
 use Rattle.train.specs.Told.{train_told}
+use Rattle.train.proofs.Entered.{kept}
 use Rattle.train.proofs.Summed.{summed}
 use Rattle.train.proofs.running.enter_handed_in.Goals as goal
 
@@ -17,6 +18,7 @@ returns-in_err-check_bar c =
     record {
       answered = λ h s. rw (p.1, p.2) (barred_away ts t c.in_err-check_bar.ensures h s.none).0;
       entered = λ h s. (barred_away ts t c.in_err-check_bar.ensures h s.none).1;
+      kept = λ h s. rw (p.1, p.2) (let q = barred_away ts t c.in_err-check_bar.ensures h s.none in kept ts t h q.0 q.1);
     }
 
 -- the tables are good, and the train is sound
@@ -35,4 +37,7 @@ returns c =
     record {
       answered = λ h s. (rows_entered t.sums t.cars sound.1 ts h (e.answered h s, e.entered h s)).0;
       entered = λ h s. summed c.enter_on-answer.new.cars c.made_by-train.ensures ∙ (rows_entered t.sums t.cars sound.1 ts h (e.answered h s, e.entered h s)).1;
+      kept = λ h s.
+          let q = rows_entered t.sums t.cars sound.1 ts h (e.answered h s, e.entered h s) in
+          kept ts (train_told t) h q.0 (summed c.enter_on-answer.new.cars c.made_by-train.ensures ∙ q.1);
     }
